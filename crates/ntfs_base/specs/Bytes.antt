@@ -1,0 +1,31 @@
+-- How every crate reads bytes: numbers at a place, the bytes of a cluster, of a list of clusters, and of the r-th piece of
+-- a size. A list of bytes is a list of numbers below 256. All numbers of NTFS on disk are little-endian (the Linux-NTFS
+-- documentation, "Concepts"); the words are ours.
+use Rattle.std.specs.Prelude.{◌≡◌, ◌≤◌, ◌<◌, ◌^◌, ◌+◌, ◌*◌, ℕ, List, [], ◌∷◌, ◌++◌, length, take, drop, slice_index, Option, Some, None, nat_le, if◌then◌else◌}
+use Rattle.std.specs.List.{Contains}
+use Rattle.byteorder.specs.Endian.{little_from}
+
+-- each number of the list is a byte
+abbrev pub AreBytes : List ℕ → Type 0
+AreBytes bytes = (i : ℕ) → slice_index bytes i < 2 ^ 8
+
+-- the number in the n bytes from a place on, the lowest first; a byte past the end counts as 0
+unfoldable pub number_at : ℕ → ℕ → List ℕ → ℕ
+number_at n place bytes = little_from place n bytes
+
+-- the bytes of cluster k of an image whose clusters have c bytes
+unfoldable pub cluster_at : List ℕ → ℕ → ℕ → List ℕ
+cluster_at image c k = take c (drop (k * c) image)
+
+-- the bytes of a list of clusters in a row, where f gives those of one
+abbrev pub stream : (ℕ → List ℕ) → List ℕ → List ℕ
+stream f [] = []
+stream f (k ∷ ks) = f k ++ stream f ks
+
+-- the r-th piece of a size, where it lies wholly in the bytes
+unfoldable pub raw_of : ℕ → List ℕ → ℕ → Option (List ℕ)
+raw_of size bytes r = if nat_le (r * size + size) (length bytes) then Some (take size (drop (r * size) bytes)) else None
+
+-- two images have the same bytes in these clusters
+abbrev pub AgreeOn : ℕ → List ℕ → List ℕ → List ℕ → Type 0
+AgreeOn c a b ks = (k : ℕ) → Contains ks k → cluster_at a c k ≡ cluster_at b c k
