@@ -1,1 +1,4 @@
 pub mod BytesLemmas
+pub mod WritesLemmas
+pub mod MemoryLemmas
+pub mod StreamLemmas

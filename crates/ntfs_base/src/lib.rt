@@ -1,3 +1,19 @@
 //! What stands outside the program, and how its bytes are read: images, files, sources and sinks as traits, and each of
 //! them in memory.
 #![tactic(auto)]
+
+mod calls;
+mod fault;
+mod image;
+mod memory;
+mod meaning;
+mod shelf;
+mod stream;
+
+pub use calls::{Calls, FailingCall, Leaves};
+pub use fault::{Failed, Faults, PutFault, ShelfFault, SinkFaults};
+pub use image::{HostFile, Image};
+pub use memory::{MemContent, MemFile, MemImage, MemSink, MemSource};
+pub use meaning::{Lack, Missing, Named, Rule, UsageKind};
+pub use shelf::Shelf;
+pub use stream::{Sink, Source};

@@ -1,0 +1,35 @@
+/// A read, a write or a sync failed outside the program.
+#[derive(Clone, Copy, Debug, PartialEq, Eq)]
+pub struct Failed;
+
+/// Why a sink didn't take all bytes.
+#[derive(Clone, Copy, Debug, PartialEq, Eq)]
+pub enum PutFault {
+    /// The outside failed; a front of the bytes may have been taken.
+    Failed,
+    /// Memory was wanting; no byte was taken.
+    NoMemory,
+}
+
+/// Why a shelf didn't hand out a file.
+#[derive(Clone, Copy, Debug, PartialEq, Eq)]
+pub enum ShelfFault {
+    Absent,
+    Present,
+    Failed,
+    NoMemory,
+}
+
+/// How often reads and writes of a device have failed. A count stops at its last value, and never falls.
+#[derive(Clone, Copy, Debug, PartialEq, Eq)]
+pub struct Faults {
+    pub reads: u64,
+    pub writes: u64,
+}
+
+/// How often a sink has failed, and how often it has wanted memory. A count stops at its last value, and never falls.
+#[derive(Clone, Copy, Debug, PartialEq, Eq)]
+pub struct SinkFaults {
+    pub failures: u64,
+    pub wants: u64,
+}

@@ -1,0 +1,12 @@
+//! The outside in memory. Each device counts its calls, and fails those that its list names.
+mod content;
+mod file;
+mod image;
+mod sink;
+mod source;
+
+pub use content::MemContent;
+pub use file::MemFile;
+pub use image::MemImage;
+pub use sink::MemSink;
+pub use source::MemSource;

@@ -1,0 +1,59 @@
+use crate::fault::{Failed, Faults};
+use crate::image::{HostFile, Image};
+use crate::memory::content::MemContent;
+
+/// A file of a shelf in memory.
+#[derive(Drop)]
+pub struct MemFile {
+    pub name: String,
+    pub inside: MemContent,
+}
+
+ghost use Rattle.std.specs.Prelude.{◌≡◌, ◌+◌, ◌≤◌, [], ◌∷◌, length, slice_range, string_bytes, IsTrue, OnOk, refl};
+ghost use Rattle.ntfs_base.specs.Causes.{ReadCause, WriteCause};
+ghost use Rattle.ntfs_base.specs.Memory.{ReadsMemory, WritesMemory, SyncsMemory, seen_of};
+ghost use Rattle.ntfs_base.specs.Writes.{Wrote};
+
+impl Image for MemFile {
+    ghost seen = { λ image. seen_of (string_bytes image.name) image.inside };
+
+    ghost faults = { λ image. image.inside.faults };
+
+    ghost told_size = { λ image told. refl };
+
+    fn len(&self) -> u64 {
+        self.inside.bytes.len() as u64
+    }
+
+    fn read_at(&mut self, at: u64, into: &mut [u8]) -> Result<(), Failed>
+        requires { at + length into.old ≤ (seen_of (string_bytes self.old.name) self.old.inside).size }
+        ensures bytes { OnOk result (IsTrue (seen_of (string_bytes self.old.name) self.old.inside).is_told → into.new ≡ slice_range (seen_of (string_bytes self.old.name) self.old.inside).content at (at + length into.old)) }
+        ensures seen { seen_of (string_bytes self.new.name) self.new.inside ≡ seen_of (string_bytes self.old.name) self.old.inside }
+        ensures cause { ReadCause self.old.inside.faults self.new.inside.faults result }
+        ensures memory { ReadsMemory self.old.inside result self.new.inside }
+        ensures name { self.new.name ≡ self.old.name }
+    {
+        self.inside.read(at, into)
+    }
+
+    fn write_at(&mut self, at: u64, bytes: &[u8]) -> Result<(), Failed>
+        requires { at + length bytes.now ≤ (seen_of (string_bytes self.old.name) self.old.inside).size }
+        ensures wrote { Wrote (record { place = at; bytes = bytes.now } ∷ []) (seen_of (string_bytes self.old.name) self.old.inside) result (seen_of (string_bytes self.new.name) self.new.inside) }
+        ensures cause { WriteCause self.old.inside.faults self.new.inside.faults result }
+        ensures memory { WritesMemory (record { place = at; bytes = bytes.now }) self.old.inside result self.new.inside }
+        ensures name { self.new.name ≡ self.old.name }
+    {
+        self.inside.write(at, bytes)
+    }
+
+    fn sync(&mut self) -> Result<(), Failed>
+        ensures seen { seen_of (string_bytes self.new.name) self.new.inside ≡ seen_of (string_bytes self.old.name) self.old.inside }
+        ensures cause { WriteCause self.old.inside.faults self.new.inside.faults result }
+        ensures memory { SyncsMemory self.old.inside result self.new.inside }
+        ensures name { self.new.name ≡ self.old.name }
+    {
+        self.inside.sync()
+    }
+}
+
+impl HostFile for MemFile {}
