@@ -1,12 +1,11 @@
 -- How the words of `specs/Bytes` read a front, a part, or what was written.
-use Rattle.std.proofs.Common.{◌≡◌, ◌≤◌, ◌<◌, ◌^◌, ◌+◌, ◌*◌, ◌-◌, ℕ, zero, suc, List, [], ◌∷◌, ◌++◌, length, take, drop, get_or, slice_index, refl, sym, ap, ◌∙◌, arith, length-append, append_assoc, Bool, true, false, Option, Some, None, nat_le, if◌then◌else◌}
-use Rattle.std.specs.List.{slice_range}
-use Rattle.std.proofs.lemmas.List.{take-append-le, get_or-drop, drop-take, length-take, length-take-le, length-drop}
+use Rattle.std.proofs.Common.{◌≡◌, ◌≤◌, ◌<◌, ◌^◌, ◌+◌, ◌*◌, ◌-◌, ℕ, zero, suc, List, [], ◌∷◌, ◌++◌, length, take, drop, refl, sym, ap, ◌∙◌, arith, length-append, append_assoc, Some, nat_le}
+use Rattle.std.proofs.lemmas.List.{take-append-le, get_or-drop, drop-take, length-take, length-drop}
 use Rattle.std.proofs.Math.Seq.{drop-append_seam, take-append_seam}
 use Rattle.std.proofs.lemmas.Option.{cond_some}
 use Rattle.std.proofs.lemmas.Bool.{leb-true, le-leb}
-use Rattle.byteorder.specs.Endian.{little_from, little_bytes, little_number}
-use Rattle.byteorder.specs.Numbers.{little_from-take, little_from-lt, little_number-reads_back, length-bytes_low_first}
+use Rattle.byteorder.specs.Endian.{little_bytes, little_number}
+use Rattle.byteorder.specs.Numbers.{little_from-take, little_from-lt, little_number-reads_back}
 use Rattle.ntfs_base.specs.Bytes.{number_at, cluster_at, stream, raw_of, AreBytes}
 
 -- a front of a front

@@ -2,3 +2,4 @@ pub mod BytesLemmas
 pub mod WritesLemmas
 pub mod MemoryLemmas
 pub mod StreamLemmas
+pub mod ShelfLemmas

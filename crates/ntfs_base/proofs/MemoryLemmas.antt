@@ -1,11 +1,8 @@
 -- What the calls on bytes in memory promise as calls on an image.
-use Rattle.std.proofs.Common.{◌≡◌, ◌≤◌, ◌<◌, ◌+◌, ℕ, zero, suc, List, [], ◌∷◌, length, take, refl, sym, ap, ◌∙◌, arith, Result, Ok, Err, OnOk, OnErr, IsTrue, Bool, true, false, Option, Some, None, nat_lt, if◌then◌else◌}
-use Rattle.std.proofs.lemmas.Bool.Decides.{nat_tests}
-use Rattle.ntfs_base.specs.Causes.{Rose, ReadCause, WriteCause, last_count}
-use Rattle.ntfs_base.specs.Calls.{one_more, left_by, next_failing}
-use Rattle.ntfs_base.specs.Image.{ImageState}
-use Rattle.ntfs_base.specs.Writes.{Write, overwritten, applied, after_writes, Wrote}
-use Rattle.ntfs_base.specs.Memory.{ReadsMemory, WritesMemory, SyncsMemory, seen_of}
+use Rattle.std.proofs.Common.{◌≡◌, ◌≤◌, ℕ, List, [], ◌∷◌, length, take, refl, arith, Result, Ok, Err, Option, Some, None}
+use Rattle.ntfs_base.specs.Calls.{left_by, next_failing}
+use Rattle.ntfs_base.specs.Writes.{Write, overwritten, after_writes, Wrote}
+use Rattle.ntfs_base.specs.Memory.{WritesMemory, seen_of}
 use Rattle.ntfs_base.specs.declared.memory.content.MemContent.{MemContent}
 use Rattle.ntfs_base.specs.declared.calls.Leaves.{Leaves}
 use Rattle.ntfs_base.specs.declared.calls.Leaves.TheVariants as leaves

@@ -1,7 +1,6 @@
 -- Puts: how a sink in memory meets what a sink promises, and how one put follows another.
-use Rattle.std.proofs.Common.{◌≡◌, ◌≤◌, ◌<◌, ◌+◌, ℕ, zero, suc, List, [], ◌∷◌, ◌++◌, length, take, min, refl, sym, ap, ◌∙◌, arith, length-append, append_assoc, Result, Ok, Err, OnOk, OnErr, Bool, true, false, Option, Some, None, if◌then◌else◌}
+use Rattle.std.proofs.Common.{◌≡◌, ◌≤◌, ℕ, List, ◌++◌, length, take, min, refl, sym, ap, arith, Ok, Err, true, Option, Some, None}
 use Rattle.std.proofs.lemmas.List.{take_min, take_all, append-nil}
-use Rattle.std.proofs.Math.Seq.{take-append-add}
 use Rattle.ntfs_base.specs.Calls.{front_by}
 use Rattle.ntfs_base.specs.Stream.{SinkState, Put, after_put}
 use Rattle.ntfs_base.specs.declared.calls.Leaves.{Leaves}

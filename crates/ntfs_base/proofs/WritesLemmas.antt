@@ -1,9 +1,9 @@
 -- What writes leave.
-use Rattle.std.proofs.Common.{◌≡◌, ◌≤◌, ◌<◌, ◌+◌, ◌-◌, ℕ, zero, suc, List, [], ◌∷◌, ◌++◌, length, take, drop, refl, sym, ap, ◌∙◌, arith, length-append, append_assoc, Result, OnOk, OnErr, if◌then◌else◌, Bool, true, false}
-use Rattle.std.proofs.lemmas.List.{length-take, length-take-le, length-drop, drop-drop}
-use borrow.Rule.Slice.PartMut.{put_mid, post_of}
+use Rattle.std.proofs.Common.{◌≡◌, ◌≤◌, ◌+◌, ◌-◌, ℕ, List, [], ◌∷◌, ◌++◌, length, refl, ap, arith, length-append, if◌then◌else◌, Bool, true, false}
+use Rattle.std.proofs.lemmas.List.{length-take-le, length-drop, drop-drop}
+use borrow.Rule.Slice.PartMut.{put_mid}
 use Rattle.ntfs_base.specs.Image.{ImageState}
-use Rattle.ntfs_base.specs.Writes.{Write, overwritten, applied, after_writes, Wrote}
+use Rattle.ntfs_base.specs.Writes.{Write, overwritten, applied, after_writes}
 
 -- what a copy into a part of a slice leaves
 pub put_mid-overwritten : (at : ℕ) (content bytes part : List ℕ) → at + length bytes ≤ length content → part ≡ bytes → put_mid at (at + length bytes - at) content part ≡ overwritten (record { place = at; bytes = bytes }) content

@@ -1,5 +1,5 @@
 -- Why a call on something outside has failed: a count of faults rose. The words are ours.
-use Rattle.std.specs.Prelude.{◌≡◌, ◌<◌, ◌≤◌, ℕ, OnErr, IfErr, Result}
+use Rattle.std.specs.Prelude.{◌<◌, ◌≤◌, ℕ, OnErr, IfErr, Result}
 use Rattle.ntfs_base.specs.declared.fault.Faults.{Faults}
 use Rattle.ntfs_base.specs.declared.fault.SinkFaults.{SinkFaults}
 use Rattle.ntfs_base.specs.declared.fault.PutFault.{PutFault}

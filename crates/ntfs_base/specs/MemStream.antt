@@ -1,5 +1,5 @@
 -- Sources and sinks in memory as contracts see them. The words are ours.
-use Rattle.std.specs.Prelude.{◌≡◌, ◌++◌, ℕ, Bool, List, true, is_some, Option, None, Result, Ok, Err}
+use Rattle.std.specs.Prelude.{◌≡◌, ◌++◌, ℕ, List, true, is_some, None, Result, Ok, Err}
 use Rattle.ntfs_base.specs.Calls.{front_by, next_failing, one_more}
 use Rattle.ntfs_base.specs.declared.fault.PutFault.{PutFault}
 use Rattle.ntfs_base.specs.declared.fault.PutFault.TheVariants as put

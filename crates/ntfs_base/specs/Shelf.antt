@@ -29,12 +29,12 @@ pub record ShelfState : Type 0 where
 -- one of these names
 abbrev pub has_name : List ℕ → List (List ℕ) → Bool
 has_name name [] = false
-has_name name (x ∷ xs) = bytes_eq x name || has_name name xs
+has_name name (x ∷ xs) = bytes_eq name x || has_name name xs
 
 -- the names without this one
 abbrev pub without : List ℕ → List (List ℕ) → List (List ℕ)
 without name [] = []
-without name (x ∷ xs) = if bytes_eq x name then xs else x ∷ without name xs
+without name (x ∷ xs) = if bytes_eq name x then xs else x ∷ without name xs
 
 -- the shelf after it has handed out the file of a name
 unfoldable pub after_attach : List ℕ → ShelfState → ShelfState

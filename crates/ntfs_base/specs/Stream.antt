@@ -1,5 +1,5 @@
 -- What contracts see of a source and of a sink of bytes. The words are ours.
-use Rattle.std.specs.Prelude.{◌≡◌, ◌≤◌, ◌<◌, ◌+◌, ◌↔◌, ℕ, Bool, List, [], ◌∷◌, ◌++◌, length, take, drop, slice_range, IsTrue, OnOk, OnErr, IfOk, IfErr, Result, MatchResult, if◌then◌else◌}
+use Rattle.std.specs.Prelude.{◌≡◌, ◌≤◌, ◌<◌, ◌+◌, ◌↔◌, ℕ, Bool, List, ◌++◌, length, take, drop, OnOk, OnErr, Result, if◌then◌else◌}
 use Rattle.ntfs_base.specs.declared.fault.PutFault.{PutFault}
 use Rattle.ntfs_base.specs.declared.fault.PutFault.TheVariants as put
 

@@ -1,3 +1,5 @@
+use std::alloc::{AllocError, AllocFailed};
+
 /// A read, a write or a sync failed outside the program.
 #[derive(Clone, Copy, Debug, PartialEq, Eq)]
 pub struct Failed;
@@ -18,6 +20,28 @@ pub enum ShelfFault {
     Present,
     Failed,
     NoMemory,
+}
+
+impl From<AllocError> for ShelfFault {
+    ghost use Rattle.std.specs.Prelude.{◌≡◌};
+    ghost use Rattle.ntfs_base.specs.declared.fault.ShelfFault.TheVariants.{NoMemory};
+
+    ghost from_gives = { λ _ e. e ≡ NoMemory };
+
+    fn from(_: AllocError) -> ShelfFault {
+        ShelfFault::NoMemory
+    }
+}
+
+impl<T: Drop> From<AllocFailed<T>> for ShelfFault {
+    ghost use Rattle.std.specs.Prelude.{◌≡◌};
+    ghost use Rattle.ntfs_base.specs.declared.fault.ShelfFault.TheVariants.{NoMemory};
+
+    ghost from_gives = { λ _ e. e ≡ NoMemory };
+
+    fn from(_: AllocFailed<T>) -> ShelfFault {
+        ShelfFault::NoMemory
+    }
 }
 
 /// How often reads and writes of a device have failed. A count stops at its last value, and never falls.

@@ -5,15 +5,15 @@
 mod calls;
 mod fault;
 mod image;
-mod memory;
 mod meaning;
+mod memory;
 mod shelf;
 mod stream;
 
 pub use calls::{Calls, FailingCall, Leaves};
 pub use fault::{Failed, Faults, PutFault, ShelfFault, SinkFaults};
 pub use image::{HostFile, Image};
-pub use memory::{MemContent, MemFile, MemImage, MemSink, MemSource};
 pub use meaning::{Lack, Missing, Named, Rule, UsageKind};
+pub use memory::{MemContent, MemFile, MemImage, MemShelf, MemSink, MemSource, Place};
 pub use shelf::Shelf;
 pub use stream::{Sink, Source};

@@ -31,5 +31,6 @@ pub trait Shelf {
         requires { has_name (Self.File.seen file).name (seen self.old).attached ≡ true }
         ensures released { seen self.new ≡ after_release (Self.File.seen file) (seen self.old) }
         ensures reads { (faults self.new).reads ≡ added_count (faults self.old).reads (Self.File.faults file).reads }
-        ensures writes { (faults self.new).writes ≡ added_count (faults self.old).writes (Self.File.faults file).writes };
+        ensures writes { (faults self.new).writes ≡ added_count (faults self.old).writes (Self.File.faults file).writes }
+        ensures counts { HaveNotFallen (faults self.old) (faults self.new) };
 }

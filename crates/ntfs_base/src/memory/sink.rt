@@ -76,7 +76,11 @@ impl Sink for MemSink {
     {
         self.is_flushed = false;
         let planned = self.calls.next();
-        if self.content.extend_from_slice(front(planned, bytes)).is_err() {
+        if self
+            .content
+            .extend_from_slice(front(planned, bytes))
+            .is_err()
+        {
             self.faults.wants = one_more(self.faults.wants);
             return Err(PutFault::NoMemory);
         }

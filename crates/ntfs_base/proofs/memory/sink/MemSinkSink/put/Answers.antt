@@ -1,4 +1,4 @@
-use Rattle.std.proofs.Common.{rules, arith}
+use Rattle.std.proofs.Common.{rules}
 use Rattle.ntfs_base.proofs.StreamLemmas.{put_whole, put_front, put_none}
 use Rattle.ntfs_base.proofs.memory.sink.MemSinkSink.put.Goals as goal
 

@@ -1,0 +1,98 @@
+-- A shelf in memory: places with a name each, of which the first of a name counts. The words are ours.
+use Rattle.std.specs.Prelude.{◌≡◌, ◌&&◌, ◌+◌, String, ℕ, Bool, true, false, List, [], ◌∷◌, map, Option, Some, None, is_some, Result, Ok, Err, if◌then◌else◌}
+use Rattle.std.specs.Option.{option_map}
+use Rattle.std.specs.Str.{bytes_eq}
+use Rattle.std.specs.String.{string_bytes}
+use Rattle.std.specs.FinMap as files
+use Rattle.std.specs.declared.alloc.Global.{Global}
+use Rattle.ntfs_base.specs.Calls.{failing_at, one_more}
+use Rattle.ntfs_base.specs.Shelf.{Files, ShelfState}
+use Rattle.ntfs_base.specs.declared.calls.FailingCall.{FailingCall}
+use Rattle.ntfs_base.specs.declared.calls.Leaves.{Leaves}
+use Rattle.ntfs_base.specs.declared.fault.ShelfFault.{ShelfFault}
+use Rattle.ntfs_base.specs.declared.fault.ShelfFault.TheVariants as fault
+use Rattle.ntfs_base.specs.declared.memory.file.MemFile.{MemFile}
+use Rattle.ntfs_base.specs.declared.memory.place.Place.{Place}
+
+-- the first place of a name
+abbrev pub place_of : List ℕ → List Place → Option Place
+place_of name [] = None
+place_of name (p ∷ ps) = if bytes_eq name (string_bytes p.name) then Some p else place_of name ps
+
+-- and where it stands
+abbrev pub index_of : List ℕ → List Place → Option ℕ
+index_of name [] = None
+index_of name (p ∷ ps) = if bytes_eq name (string_bytes p.name) then Some 0 else option_map (λ i. i + 1) (index_of name ps)
+
+-- the bytes of a place, where it has a file
+abbrev pub bytes_of : Place → Option (List ℕ)
+bytes_of p = option_map (λ v. v.items) p.content
+
+-- the files with one place more, in front
+abbrev pub placed : Option (List ℕ) → List ℕ → Files → Files
+placed None name rest = files.remove rest name
+placed (Some bytes) name rest = files.insert rest name bytes
+
+-- the files that the places have
+unfoldable pub files_of : List Place → Files
+files_of [] = files.empty
+files_of (p ∷ ps) = placed (bytes_of p) (string_bytes p.name) (files_of ps)
+
+-- each of these names has a place
+abbrev pub all_placed : List Place → List (List ℕ) → Bool
+all_placed places [] = true
+all_placed places (name ∷ names) = is_some (place_of name places) && all_placed places names
+
+-- how many calls under a name were made
+abbrev pub made_by : Option Place → ℕ
+made_by None = 0
+made_by (Some p) = p.calls.made
+
+-- which calls under a name are to fail
+abbrev pub failing_by : Option Place → List FailingCall
+failing_by None = []
+failing_by (Some p) = p.calls.failing.items
+
+-- what the next call under a name leaves, where it is to fail
+abbrev pub next_failing_by : Option Place → Option Leaves
+next_failing_by p = failing_at (one_more (made_by p)) (failing_by p)
+
+-- an attach fails exactly where the list says so, unless memory is wanting; it is a call under its name, and the file that
+-- it hands out gets that name's count and list
+abbrev pub AttachesAsPlanned : Option Place → Result MemFile ShelfFault → Option Place → Type 0
+AttachesAsPlanned old (Ok file) new =
+    (next_failing_by old ≡ None) × (file.inside.calls.made ≡ one_more (made_by old)) × (file.inside.calls.failing.items ≡ failing_by old)
+AttachesAsPlanned old (Err fault.Absent) new = (next_failing_by old ≡ None) × (made_by new ≡ one_more (made_by old)) × (failing_by new ≡ failing_by old)
+AttachesAsPlanned old (Err fault.Failed) new = (is_some (next_failing_by old) ≡ true) × (made_by new ≡ one_more (made_by old)) × (failing_by new ≡ failing_by old)
+AttachesAsPlanned old (Err fault.Present) new = ⊥
+AttachesAsPlanned old (Err fault.NoMemory) new = failing_by new ≡ failing_by old
+
+-- a place of this name as it is made: without a file and without a call
+pub record IsFresh (name : List ℕ) (p : Place) : Type 0 where
+  pub named : string_bytes p.name ≡ name
+  pub empty : p.content ≡ None
+  pub made : p.calls.made ≡ 0
+  pub failing : p.calls.failing.items ≡ []
+
+-- a shelf in memory as contracts see it: its files are told
+abbrev pub seen_shelf : List Place → List (String Global) → ShelfState
+seen_shelf places attached = record { is_told = true; files = files_of places; attached = map string_bytes attached }
+
+-- the places of all other names stay as they were
+abbrev pub KeepsOthers : List ℕ → List Place → List Place → Type 0
+KeepsOthers name old new = (other : List ℕ) → bytes_eq other name ≡ false → place_of other new ≡ place_of other old
+
+-- no name loses its place
+abbrev pub KeepsPlaces : List Place → List Place → Type 0
+KeepsPlaces old new = (name : List ℕ) → is_some (place_of name old) ≡ true → is_some (place_of name new) ≡ true
+
+-- no file is another, the places of all other names stay, and none goes
+pub record KeepsFiles (name : List ℕ) (old new : List Place) : Type 0 where
+  pub files : files_of new ≡ files_of old
+  pub others : KeepsOthers name old new
+  pub places : KeepsPlaces old new
+
+-- and the count and the list of this name stay too
+pub record KeepsCalls (name : List ℕ) (old new : List Place) : Type 0 where
+  pub made : made_by (place_of name new) ≡ made_by (place_of name old)
+  pub failing : failing_by (place_of name new) ≡ failing_by (place_of name old)

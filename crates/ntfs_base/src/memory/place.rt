@@ -1,0 +1,197 @@
+use crate::calls::{Calls, Leaves};
+use crate::fault::{Faults, ShelfFault};
+use crate::memory::content::MemContent;
+use crate::memory::file::MemFile;
+use std::alloc::{AllocError, Global};
+use std::mem;
+
+/// A name of a shelf in memory, with the calls under it and its file, where it has one.
+#[derive(Drop)]
+pub struct Place {
+    pub name: String,
+    pub content: Option<Vec<u8>>,
+    pub calls: Calls,
+}
+
+ghost use Rattle.std.specs.Prelude.{◌≡◌, ◌++◌, [], ◌∷◌, Some, None, is_some, true, string_bytes, IfOk, IsSomeAnd, OnOk, OnErr, IsErrOf};
+ghost use Rattle.std.specs.FinMap.{insert};
+ghost use Rattle.std.specs.Option.{option_map};
+ghost use Rattle.ntfs_base.specs.MemShelf.{index_of, place_of, bytes_of, files_of, failing_by, made_by, IsFresh, KeepsFiles, KeepsCalls, AttachesAsPlanned, KeepsOthers, KeepsPlaces};
+ghost use Rattle.ntfs_base.specs.Shelf.{file_of};
+
+/// Where the first place of a name stands.
+pub(crate) fn find(places: &[Place], name: &str) -> Option<usize>
+    ensures { result ≡ index_of name.now places.now }
+{
+    for (index, place) in places.iter().enumerate() {
+        if name == place.name.as_str() {
+            return Some(index);
+        }
+    }
+    None
+}
+
+fn fresh(alloc: Global, name: &str) -> Result<Place, AllocError>
+    ensures { IfOk result (IsFresh name.now) }
+{
+    Ok(Place {
+        name: String::from_str(alloc, name)?,
+        content: None,
+        calls: Calls::new(alloc),
+    })
+}
+
+/// Where the place of a name stands; one without a file is made where there is none.
+pub(crate) fn index_for(
+    alloc: Global,
+    places: &mut Vec<Place>,
+    name: &str,
+) -> Result<usize, AllocError>
+    ensures found { IfOk result (λ index. index_of name.now places.new.items ≡ Some index) }
+    ensures files { KeepsFiles name.now places.old.items places.new.items }
+    ensures calls { KeepsCalls name.now places.old.items places.new.items }
+{
+    match find(places, name) {
+        Some(index) => Ok(index),
+        None => {
+            let index = places.len();
+            places.push(fresh(alloc, name)?)?;
+            Ok(index)
+        }
+    }
+}
+
+/// Counts an attach, and makes the file that it hands out, with the calls of the place.
+pub(crate) fn hand_out(alloc: Global, place: &mut Place) -> Result<MemFile, ShelfFault>
+    ensures name { place.new.name ≡ place.old.name }
+    ensures content { place.new.content ≡ place.old.content }
+    ensures planned { AttachesAsPlanned (Some place.old) result (Some place.new) }
+    ensures bears { IfOk result (λ file. string_bytes file.name ≡ string_bytes place.old.name) }
+    ensures bytes { IfOk result (λ file. bytes_of place.old ≡ Some file.inside.bytes.items) }
+    ensures reads { IfOk result (λ file. file.inside.faults.reads ≡ 0) }
+    ensures writes { IfOk result (λ file. file.inside.faults.writes ≡ 0) }
+    ensures absent { IsErrOf result ShelfFault.Absent → bytes_of place.old ≡ None }
+{
+    if place.calls.next().is_some() {
+        return Err(ShelfFault::Failed);
+    }
+    let bytes = match &place.content {
+        None => return Err(ShelfFault::Absent),
+        Some(bytes) => bytes.clone()?,
+    };
+    let name = place.name.clone()?;
+    let calls = mem::replace(&mut place.calls, Calls::new(alloc));
+    let faults = Faults {
+        reads: 0,
+        writes: 0,
+    };
+    Ok(MemFile {
+        name,
+        inside: MemContent {
+            bytes,
+            calls,
+            faults,
+        },
+    })
+}
+
+/// Hands out the file of a name, and counts the call under it.
+pub(crate) fn attach_in(
+    alloc: Global,
+    places: &mut Vec<Place>,
+    name: &str,
+) -> Result<MemFile, ShelfFault>
+    ensures files { KeepsFiles name.now places.old.items places.new.items }
+    ensures planned { AttachesAsPlanned (place_of name.now places.old.items) result (place_of name.now places.new.items) }
+    ensures placed { OnOk result (is_some (place_of name.now places.new.items) ≡ true) }
+    ensures bears { IfOk result (λ file. string_bytes file.name ≡ name.now) }
+    ensures bytes { IfOk result (λ file. file_of (files_of places.old.items) name.now ≡ Some file.inside.bytes.items) }
+    ensures reads { IfOk result (λ file. file.inside.faults.reads ≡ 0) }
+    ensures writes { IfOk result (λ file. file.inside.faults.writes ≡ 0) }
+    ensures absent { IsErrOf result ShelfFault.Absent → file_of (files_of places.old.items) name.now ≡ None }
+{
+    let index = index_for(alloc, places, name)?;
+    attach_at(alloc, places, name, index)
+}
+
+fn attach_at(
+    alloc: Global,
+    places: &mut Vec<Place>,
+    name: &str,
+    index: usize,
+) -> Result<MemFile, ShelfFault>
+    requires { index_of name.now places.old.items ≡ Some index }
+    ensures files { KeepsFiles name.now places.old.items places.new.items }
+    ensures planned { AttachesAsPlanned (place_of name.now places.old.items) result (place_of name.now places.new.items) }
+    ensures placed { is_some (place_of name.now places.new.items) ≡ true }
+    ensures bears { IfOk result (λ file. string_bytes file.name ≡ name.now) }
+    ensures bytes { IfOk result (λ file. file_of (files_of places.old.items) name.now ≡ Some file.inside.bytes.items) }
+    ensures reads { IfOk result (λ file. file.inside.faults.reads ≡ 0) }
+    ensures writes { IfOk result (λ file. file.inside.faults.writes ≡ 0) }
+    ensures absent { IsErrOf result ShelfFault.Absent → file_of (files_of places.old.items) name.now ≡ None }
+{
+    hand_out(alloc, &mut places[index])
+}
+
+fn fill(place: &mut Place, bytes: Vec<u8>, calls: Calls)
+    ensures name { place.new.name ≡ place.old.name }
+    ensures bytes { bytes_of place.new ≡ Some bytes.items }
+    ensures calls { place.new.calls ≡ calls }
+{
+    place.content = Some(bytes);
+    place.calls = calls;
+}
+
+/// Puts a file back into the place of its name.
+pub(crate) fn put_back(places: &mut Vec<Place>, name: &str, bytes: Vec<u8>, calls: Calls)
+    requires { is_some (place_of name.now places.old.items) ≡ true }
+    ensures files { files_of places.new.items ≡ insert (files_of places.old.items) name.now bytes.items }
+    ensures calls { IsSomeAnd (place_of name.now places.new.items) (λ place. place.calls ≡ calls) }
+    ensures others { KeepsOthers name.now places.old.items places.new.items }
+    ensures kept { KeepsPlaces places.old.items places.new.items }
+{
+    let index = find(places, name).unwrap();
+    fill(&mut places[index], bytes, calls);
+}
+
+/// Lets a call under a name fail, whose place stands at this index.
+pub(crate) fn fail_at(
+    places: &mut Vec<Place>,
+    name: &str,
+    index: usize,
+    number: u64,
+    leaves: Leaves,
+) -> Result<(), AllocError>
+    requires { index_of name.now places.old.items ≡ Some index }
+    ensures files { KeepsFiles name.now places.old.items places.new.items }
+    ensures ok { OnOk result (failing_by (place_of name.now places.new.items) ≡ failing_by (place_of name.now places.old.items) ++ record { number = number; leaves = leaves } ∷ []) }
+{
+    fail_here(&mut places[index], number, leaves)
+}
+
+fn fail_here(place: &mut Place, number: u64, leaves: Leaves) -> Result<(), AllocError>
+    ensures name { place.new.name ≡ place.old.name }
+    ensures content { place.new.content ≡ place.old.content }
+    ensures ok { OnOk result (place.new.calls.failing.items ≡ place.old.calls.failing.items ++ record { number = number; leaves = leaves } ∷ []) }
+{
+    place.calls.fail(number, leaves)
+}
+
+/// The bytes under a name, whose place stands at this index.
+pub(crate) fn content_at<'a>(places: &'a Vec<Place>, name: &str, index: usize) -> Option<&'a [u8]>
+    requires { index_of name.now places.now.items ≡ Some index }
+    ensures { option_map (λ bytes. bytes.now) result ≡ file_of (files_of places.now.items) name.now }
+{
+    match &places[index].content {
+        Some(bytes) => Some(bytes.as_slice()),
+        None => None,
+    }
+}
+
+/// How many calls were made under a name, whose place stands at this index.
+pub(crate) fn made_at(places: &Vec<Place>, name: &str, index: usize) -> u64
+    requires { index_of name.now places.now.items ≡ Some index }
+    ensures { result ≡ made_by (place_of name.now places.now.items) }
+{
+    places[index].calls.made
+}

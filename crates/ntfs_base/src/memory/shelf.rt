@@ -1,0 +1,175 @@
+ghost use Rattle.std.specs.Prelude.{map, string_bytes, IsTrue};
+ghost use Rattle.ntfs_base.specs.MemShelf.{all_placed};
+
+use crate::calls::{Calls, FailingCall, Leaves, one_more};
+use crate::fault::{Faults, ShelfFault};
+use crate::memory::content::MemContent;
+use crate::memory::file::MemFile;
+use crate::memory::place::{
+    Place, attach_in, content_at, fail_at, find, index_for, made_at, put_back,
+};
+use crate::shelf::Shelf;
+use std::alloc::{AllocError, Global};
+
+/// A shelf in memory. It numbers the calls under each name by themselves, `attach` among them, and hands each file its
+/// name's count and list of failing calls.
+#[derive(Drop)]
+pub struct MemShelf {
+    pub places: Vec<Place>,
+    pub attached: Vec<String>,
+    pub faults: Faults,
+    ghost held: { IsTrue (all_placed places.items (map string_bytes attached.items)) },
+}
+
+impl MemShelf {
+    ghost use Rattle.std.specs.Prelude.{◌≡◌, ◌++◌, [], ◌∷◌, OnOk, OnErr};
+    ghost use Rattle.std.specs.Option.{option_map};
+    ghost use Rattle.std.specs.FinMap.{empty, insert};
+    ghost use Rattle.ntfs_base.specs.MemShelf.{files_of, place_of, made_by, failing_by, KeepsFiles};
+    ghost use Rattle.ntfs_base.specs.Shelf.{file_of};
+
+    /// A shelf without files.
+    pub fn new(alloc: Global) -> MemShelf
+        ensures files { files_of result.places.items ≡ empty }
+        ensures attached { result.attached.items ≡ [] }
+        ensures reads { result.faults.reads ≡ 0 }
+        ensures writes { result.faults.writes ≡ 0 }
+    {
+        MemShelf {
+            places: Vec::new(alloc),
+            attached: Vec::new(alloc),
+            faults: Faults {
+                reads: 0,
+                writes: 0,
+            },
+        }
+    }
+
+    /// Puts a file on the shelf, in place of one of that name, with no call under it yet and none that is to fail.
+    pub fn add(&mut self, name: &str, bytes: Vec<u8>) -> Result<(), AllocError>
+        ensures ok { OnOk result (files_of self.new.places.items ≡ insert (files_of self.old.places.items) name.now bytes.items) }
+        ensures err { OnErr result (files_of self.new.places.items ≡ files_of self.old.places.items) }
+        ensures attached { self.new.attached ≡ self.old.attached }
+        ensures faults { self.new.faults ≡ self.old.faults }
+    {
+        let alloc = *self.places.allocator();
+        index_for(alloc, &mut self.places, name)?;
+        put_back(&mut self.places, name, bytes, Calls::new(alloc));
+        Ok(())
+    }
+
+    /// Lets the call of this number under a name fail.
+    pub fn fail(&mut self, name: &str, number: u64, leaves: Leaves) -> Result<(), AllocError>
+        ensures ok { OnOk result (failing_by (place_of name.now self.new.places.items) ≡ failing_by (place_of name.now self.old.places.items) ++ record { number = number; leaves = leaves } ∷ []) }
+        ensures files { KeepsFiles name.now self.old.places.items self.new.places.items }
+        ensures attached { self.new.attached ≡ self.old.attached }
+        ensures faults { self.new.faults ≡ self.old.faults }
+    {
+        let alloc = *self.places.allocator();
+        let index = index_for(alloc, &mut self.places, name)?;
+        fail_at(&mut self.places, name, index, number, leaves)
+    }
+
+    /// The bytes of the file of a name.
+    pub fn content(&self, name: &str) -> Option<&[u8]>
+        ensures { option_map (λ bytes. bytes.now) result ≡ file_of (files_of self.now.places.items) name.now }
+    {
+        match find(&self.places, name) {
+            Some(index) => content_at(&self.places, name, index),
+            None => None,
+        }
+    }
+
+    /// How many calls were made under a name.
+    pub fn made(&self, name: &str) -> u64
+        ensures { result ≡ made_by (place_of name.now self.now.places.items) }
+    {
+        match find(&self.places, name) {
+            Some(index) => made_at(&self.places, name, index),
+            None => 0,
+        }
+    }
+}
+
+impl Shelf for MemShelf {
+    type File = MemFile;
+
+    ghost use Rattle.std.specs.Prelude.{◌≡◌, false, true, string_bytes, IsSomeAnd, IfOk, IfErr, OnOk, OnErr};
+    ghost use Rattle.ntfs_base.specs.Causes.{HaveNotFallen};
+    ghost use Rattle.ntfs_base.specs.Memory.{seen_of};
+    ghost use Rattle.ntfs_base.specs.MemShelf.{seen_shelf, place_of, AttachesAsPlanned, KeepsOthers};
+    ghost use Rattle.ntfs_base.specs.Shelf.{IsHandedOut, AttachCause, after_attach, after_release, has_name, added_count};
+
+    ghost seen = { λ shelf. seen_shelf shelf.places.items shelf.attached.items };
+
+    ghost faults = { λ shelf. shelf.faults };
+
+    fn attach(&mut self, name: &str) -> Result<MemFile, ShelfFault>
+        requires { has_name name.now (seen_shelf self.old.places.items self.old.attached.items).attached ≡ false }
+        ensures file { IfOk result (λ file. IsHandedOut (seen_shelf self.old.places.items self.old.attached.items) name.now (seen_of (string_bytes file.name) file.inside) file.inside.faults) }
+        ensures attached { OnOk result (seen_shelf self.new.places.items self.new.attached.items ≡ after_attach name.now (seen_shelf self.old.places.items self.old.attached.items)) }
+        ensures refused { OnErr result (seen_shelf self.new.places.items self.new.attached.items ≡ seen_shelf self.old.places.items self.old.attached.items) }
+        ensures refusal { IfErr result (λ fault. AttachCause fault (seen_shelf self.old.places.items self.old.attached.items) name.now self.old.faults self.new.faults) }
+        ensures counts { HaveNotFallen self.old.faults self.new.faults }
+        ensures planned { AttachesAsPlanned (place_of name.now self.old.places.items) result (place_of name.now self.new.places.items) }
+        ensures others { KeepsOthers name.now self.old.places.items self.new.places.items }
+    {
+        let alloc = *self.places.allocator();
+        let text = String::from_str(alloc, name)?;
+        self.attached.reserve(1)?;
+        match attach_in(alloc, &mut self.places, name) {
+            Ok(file) => {
+                self.attached.insert(0, text).unwrap();
+                Ok(file)
+            }
+            Err(ShelfFault::Failed) => {
+                self.faults.reads = one_more(self.faults.reads);
+                Err(ShelfFault::Failed)
+            }
+            Err(fault) => Err(fault),
+        }
+    }
+
+    fn release(&mut self, file: MemFile)
+        requires { has_name (string_bytes file.name) (seen_shelf self.old.places.items self.old.attached.items).attached ≡ true }
+        ensures released { seen_shelf self.new.places.items self.new.attached.items ≡ after_release (seen_of (string_bytes file.name) file.inside) (seen_shelf self.old.places.items self.old.attached.items) }
+        ensures reads { self.new.faults.reads ≡ added_count self.old.faults.reads file.inside.faults.reads }
+        ensures writes { self.new.faults.writes ≡ added_count self.old.faults.writes file.inside.faults.writes }
+        ensures counts { HaveNotFallen self.old.faults self.new.faults }
+        ensures calls { IsSomeAnd (place_of (string_bytes file.name) self.new.places.items) (λ place. place.calls ≡ file.inside.calls) }
+        ensures others { KeepsOthers (string_bytes file.name) self.old.places.items self.new.places.items }
+    {
+        let MemFile { name, inside } = file;
+        let MemContent {
+            bytes,
+            calls,
+            faults,
+        } = inside;
+        put_back(&mut self.places, name.as_str(), bytes, calls);
+        remove_name(&mut self.attached, name.as_str());
+        self.faults.reads = self.faults.reads.saturating_add(faults.reads);
+        self.faults.writes = self.faults.writes.saturating_add(faults.writes);
+    }
+}
+
+ghost use Rattle.std.specs.Prelude.{◌≡◌};
+ghost use Rattle.std.specs.Str.{bytes_eq};
+ghost use Rattle.ntfs_base.specs.Shelf.{without};
+
+/// Takes the first of a name away.
+fn remove_name(names: &mut Vec<String>, name: &str)
+    ensures { map string_bytes names.new.items ≡ without name.now (map string_bytes names.old.items) }
+{
+    for index in 0..names.len() {
+        if is_named(&names[index], name) {
+            names.remove(index);
+            return;
+        }
+    }
+}
+
+fn is_named(text: &String, name: &str) -> bool
+    ensures { result ≡ bytes_eq name.now (string_bytes text.now) }
+{
+    name == text.as_str()
+}
