@@ -1,5 +1,5 @@
 -- How the words of `specs/Bytes` read a front, a part, or what was written.
-use Rattle.std.proofs.Common.{◌≡◌, ◌≤◌, ◌<◌, ◌^◌, ◌+◌, ◌*◌, ◌-◌, ℕ, zero, suc, List, [], ◌∷◌, ◌++◌, length, take, drop, refl, sym, ap, ◌∙◌, arith, length-append, append_assoc, Some, nat_le}
+use Rattle.std.proofs.Common.{slice_index, ◌≡◌, ◌≤◌, ◌<◌, ◌^◌, ◌+◌, ◌*◌, ◌-◌, ℕ, zero, suc, List, [], ◌∷◌, ◌++◌, length, take, drop, refl, sym, ap, ◌∙◌, arith, length-append, append_assoc, Some, nat_le}
 use Rattle.std.proofs.lemmas.List.{take-append-le, get_or-drop, drop-take, length-take, length-drop}
 use Rattle.std.proofs.Math.Seq.{drop-append_seam, take-append_seam}
 use Rattle.std.proofs.lemmas.Option.{cond_some}
@@ -112,3 +112,8 @@ raw_of-append size r front rest piece is =
     let found = raw_of-some size r front piece is in
     let same = take-drop-append (r * size) size front rest found.0 in
     raw_of-within size r (front ++ rest) (omega (arith, found.0, length-append front rest)) ∙ ap Some (same ∙ found.1)
+
+-- a number of one byte is the byte
+pub number_at-byte : (place : ℕ) (bytes : List ℕ) → number_at 1 place bytes ≡ slice_index bytes place
+unfolding number_at
+number_at-byte place bytes = omega arith

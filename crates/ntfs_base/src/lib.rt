@@ -5,6 +5,7 @@
 mod calls;
 mod fault;
 mod image;
+mod line;
 mod meaning;
 mod memory;
 mod shelf;
@@ -13,6 +14,7 @@ mod stream;
 pub use calls::{Calls, FailingCall, Leaves};
 pub use fault::{Failed, Faults, PutFault, ShelfFault, SinkFaults};
 pub use image::{HostFile, Image};
+pub use line::Line;
 pub use meaning::{Lack, Missing, Named, Rule, UsageKind};
 pub use memory::{MemContent, MemFile, MemImage, MemShelf, MemSink, MemSource, Place};
 pub use shelf::Shelf;

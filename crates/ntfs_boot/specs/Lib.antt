@@ -1,0 +1,3 @@
+pub use Rattle.ntfs_base.specs.Bytes
+pub mod BootSector
+pub mod Geometry
