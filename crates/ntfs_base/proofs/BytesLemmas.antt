@@ -117,3 +117,8 @@ raw_of-append size r front rest piece is =
 pub number_at-byte : (place : ℕ) (bytes : List ℕ) → number_at 1 place bytes ≡ slice_index bytes place
 unfolding number_at
 number_at-byte place bytes = omega arith
+
+-- what `byteorder` reads at the front of a part of the bytes
+pub little_number-part : (n place m : ℕ) (bytes : List ℕ) → n ≤ m → little_number n (take m (drop place bytes)) ≡ number_at n place bytes
+unfolding number_at
+little_number-part n place m bytes within = number_at-take n 0 m (drop place bytes) (omega arith) ∙ little_number-drop n place bytes

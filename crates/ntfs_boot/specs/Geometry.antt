@@ -106,10 +106,13 @@ unfoldable pub boot_geometry : BootSector → Result Geometry BootFault
 boot_geometry b = judged b (first_wrong (checks b))
 
 -- a refusal of the boot sector as one of the image
+abbrev pub image_fault : BootFault → ImageFault
+image_fault boot.NotNtfs = image.NotNtfs
+image_fault (boot.BadGeometry field value) = image.BadGeometry field value
+
 abbrev pub widened : Result Geometry BootFault → Result Geometry ImageFault
 widened (Ok g) = Ok g
-widened (Err boot.NotNtfs) = Err image.NotNtfs
-widened (Err (boot.BadGeometry field value)) = Err (image.BadGeometry field value)
+widened (Err fault) = Err (image_fault fault)
 
 -- what the first 512 bytes of an image give
 unfoldable pub sector_geometry : List ℕ → Result Geometry BootFault
@@ -145,3 +148,11 @@ pub record IsGood (g : Geometry) : Type 0 where
   pub most_clusters : g.clusters < 2 ^ 32
   pub mft : g.mft + clusters_for g.record_size g.cluster ≤ g.clusters
   pub mirror : g.mirror + clusters_for (4 * g.record_size) g.cluster ≤ g.clusters
+
+-- an answer is the expected one, unless the image couldn't be read
+abbrev pub Judges : Result Geometry ImageFault → Result Geometry ImageFault → Type 0
+Judges (Ok g) expected = expected ≡ Ok g
+Judges (Err image.NotNtfs) expected = expected ≡ Err image.NotNtfs
+Judges (Err (image.BadGeometry field value)) expected = expected ≡ Err (image.BadGeometry field value)
+Judges (Err (image.ImageShort len need)) expected = expected ≡ Err (image.ImageShort len need)
+Judges (Err image.ReadFault) expected = Unit {0}

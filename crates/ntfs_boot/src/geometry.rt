@@ -44,6 +44,7 @@ pub enum BootFault {
 /// The fields are those of the boot sector as the Linux-NTFS documentation has them under "$Boot". A sector has 512 to
 /// 4,096 bytes, a cluster at most 65,536, a record 1,024 to 4,096 and an index block 1,024 to 65,536; there are 1 to
 /// 2^32 - 1 clusters, and the first record and the first four of the mirror lie among them.
+#[tactic(auto, unfolding(crate::specs::Geometry::sector_geometry))]
 pub fn read_geometry(sector: &[u8; 512]) -> Result<Geometry, BootFault>
     ensures exact { result ≡ sector_geometry sector.now }
     ensures good { IfOk result IsGood }
@@ -178,22 +179,32 @@ fn power_of_two(exponent: u32) -> Option<u32>
     if exponent < 32 { Some(1 << exponent) } else { None }
 }
 
+#[tactic(auto, using(crate::proofs::GeometryLemmas::large_sizes))]
 fn record_size_of(code: u8, cluster: u32) -> Option<u32>
     requires { cluster ≤ 65536 }
     ensures value { MatchOption result (is_record_size (coded_size code cluster) ≡ false) (λ size. (is_record_size (coded_size code cluster) ≡ true) × (size ≡ coded_size code cluster)) }
     ensures bounds { IfSome result (λ size. (1024 ≤ size) × (size ≤ 4096)) }
 {
-    let size = coded_size(code, cluster)?;
-    if is_record_size(size) { Some(size) } else { None }
+    match coded_size(code, cluster) {
+        None => None,
+        Some(size) => {
+            if is_record_size(size) { Some(size) } else { None }
+        }
+    }
 }
 
+#[tactic(auto, using(crate::proofs::GeometryLemmas::large_sizes))]
 fn block_size_of(code: u8, cluster: u32) -> Option<u32>
     requires { cluster ≤ 65536 }
     ensures value { MatchOption result (is_block_size (coded_size code cluster) ≡ false) (λ size. (is_block_size (coded_size code cluster) ≡ true) × (size ≡ coded_size code cluster)) }
     ensures bounds { IfSome result (λ size. (1024 ≤ size) × (size ≤ 65536)) }
 {
-    let size = coded_size(code, cluster)?;
-    if is_block_size(size) { Some(size) } else { None }
+    match coded_size(code, cluster) {
+        None => None,
+        Some(size) => {
+            if is_block_size(size) { Some(size) } else { None }
+        }
+    }
 }
 
 #[tactic(auto, unfolding(crate::specs::Geometry::is_block_size))]

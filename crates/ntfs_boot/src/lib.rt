@@ -6,4 +6,4 @@ mod geometry;
 mod volume;
 
 pub use geometry::{BootFault, Geometry, read_geometry};
-pub use volume::ImageFault;
+pub use volume::{ImageFault, read_volume_geometry};
