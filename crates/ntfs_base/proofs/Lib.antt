@@ -3,3 +3,4 @@ pub mod WritesLemmas
 pub mod MemoryLemmas
 pub mod StreamLemmas
 pub mod ShelfLemmas
+pub mod AttachLemmas

@@ -1,0 +1,52 @@
+-- How answers give outcomes.
+use Rattle.std.proofs.Common.{◌≡◌, ◌≤◌, ◌<◌, ◌+◌, ℕ, List, [], ◌∷◌, ◌++◌, length, take, refl, sym, ap, subst, ◌∙◌, arith, Result, Ok, Err, Option, Some, None, IsTrue}
+use Rattle.ntfs_base.specs.Stream.{SinkState, after_put}
+use Rattle.ntfs_base.proofs.StreamLemmas.{after_put-nil}
+use Rattle.ntfs_base.specs.declared.meaning.Named.{Named}
+use Rattle.ntfs_base.specs.declared.meaning.Named.TheVariants as named
+use Rattle.ntfs_base.specs.declared.fault.ShelfFault.{ShelfFault}
+use Rattle.ntfs_base.specs.declared.fault.ShelfFault.TheVariants as shelf_fault
+use Rattle.ntfs_base.specs.declared.fault.Faults.{Faults}
+use Rattle.ntfs_base.specs.Shelf.{ShelfState, AttachCause, file_of}
+use Rattle.ntfs_boot.specs.Geometry.{Judges}
+use Rattle.ntfs_boot.specs.declared.geometry.Geometry.{Geometry}
+use Rattle.ntfs_boot.specs.declared.volume.ImageFault.{ImageFault}
+use Rattle.ntfs_boot.specs.declared.volume.ImageFault.TheVariants as image
+use Rattle.ntfsprogs.specs.Info.{file_outcome, geometry_outcome, refused}
+use Rattle.ntfsprogs.specs.Outcome.{Outcome, Answers, IsSettled, image_status, attach_status}
+use Rattle.ntfsprogs.specs.declared.status.Status.{Status}
+use Rattle.ntfsprogs.specs.declared.status.Status.TheVariants as status
+
+-- nothing was put, and nothing was to be put
+pub answers_refused : (result : Status) (sink : SinkState) → Answers (refused result) result sink sink
+answers_refused result sink = record {
+  status = λ settled. refl;
+  output = λ settled. sym (after_put-nil sink);
+  front = (0, omega arith, sym (after_put-nil sink));
+}
+
+-- the work was cut off before anything was put
+pub answers_cut : (outcome : Outcome) (result : Status) (sink : SinkState) → (IsSettled result → ⊥) → Answers outcome result sink sink
+answers_cut outcome result sink cut = record {
+  status = λ settled. absurd (cut settled);
+  output = λ settled. absurd (cut settled);
+  front = (0, omega arith, sym (after_put-nil sink));
+}
+
+-- the image was refused, or couldn't be read
+pub answers_image : (fault : ImageFault) (expected : Result Geometry ImageFault) (sink : SinkState) → Judges (Err fault) expected → Answers (geometry_outcome expected) (image_status fault) sink sink
+answers_image image.NotNtfs expected sink is = subst (λ e. Answers (geometry_outcome e) status.NotNtfs sink sink) (sym is) (answers_refused status.NotNtfs sink)
+answers_image (image.BadGeometry field value) expected sink is =
+    subst (λ e. Answers (geometry_outcome e) (status.BadGeometry field value) sink sink) (sym is) (answers_refused (status.BadGeometry field value) sink)
+answers_image (image.ImageShort len need) expected sink is =
+    subst (λ e. Answers (geometry_outcome e) (status.ImageShort len need) sink sink) (sym is) (answers_refused (status.ImageShort len need) sink)
+answers_image image.ReadFault expected sink is = answers_cut (geometry_outcome expected) status.ReadFault sink (λ settled. settled)
+
+-- the image wasn't attached
+pub answers_attach : (fault : ShelfFault) (shelf : ShelfState) (name : List ℕ) (old new : Faults) (sink : SinkState) → IsTrue shelf.is_told → AttachCause fault shelf name old new
+    → Answers (file_outcome (file_of shelf.files name)) (attach_status named.Image fault) sink sink
+answers_attach shelf_fault.Absent shelf name old new sink told cause =
+    subst (λ f. Answers (file_outcome f) (status.Absent named.Image) sink sink) (sym (cause told)) (answers_refused (status.Absent named.Image) sink)
+answers_attach shelf_fault.Present shelf name old new sink told cause = absurd cause
+answers_attach shelf_fault.Failed shelf name old new sink told cause = answers_cut (file_outcome (file_of shelf.files name)) status.ReadFault sink (λ settled. settled)
+answers_attach shelf_fault.NoMemory shelf name old new sink told cause = answers_cut (file_outcome (file_of shelf.files name)) status.NoMemory sink (λ settled. settled)

@@ -1,0 +1,10 @@
+pub use Rattle.ntfs_base.specs.Causes
+pub use Rattle.ntfs_base.specs.Shelf
+pub use Rattle.ntfs_base.specs.Stream
+pub use Rattle.ntfs_boot.specs.Geometry
+pub mod Words
+pub mod Code
+pub mod Outcome
+pub mod Info
+pub mod Message
+pub mod Reply

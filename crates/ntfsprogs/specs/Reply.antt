@@ -1,0 +1,58 @@
+-- What the program replies to the words of a command line, the files of the shelf and the input: a status, the bytes on the
+-- output, the message line, and the files afterwards. Each tool has a module of its own.
+use Rattle.std.specs.Prelude.{◌≡◌, ◌⊎◌, ◌≤◌, ℕ, List, length, take, Option, Some, None, map, string_bytes}
+use Rattle.ntfs_base.specs.Causes.{Rose}
+use Rattle.ntfs_base.specs.Shelf.{Files}
+use Rattle.ntfs_base.specs.Stream.{SinkState, SourceState, after_put}
+use Rattle.ntfs_base.specs.declared.fault.SinkFaults.{SinkFaults}
+use Rattle.ntfs_base.specs.declared.meaning.UsageKind.TheVariants as usage
+use Rattle.ntfsprogs.specs.Info.{info_outcome, refused}
+use Rattle.ntfsprogs.specs.Message.{message_of}
+use Rattle.ntfsprogs.specs.Outcome.{Outcome}
+use Rattle.ntfsprogs.specs.Words.{tool_of}
+use Rattle.ntfsprogs.specs.declared.status.Status.{Status}
+use Rattle.ntfsprogs.specs.declared.status.Status.TheVariants as status
+use Rattle.ntfsprogs.specs.declared.words.Tool.{Tool}
+use Rattle.ntfsprogs.specs.declared.words.Tool.TheVariants.{Info}
+
+pub record Reply : Type 0 where
+  pub status : Status
+  pub output : List ℕ
+  pub message : List ℕ
+  pub files : Files
+
+-- what the tool answers
+abbrev pub tool_outcome : Option Tool → List (List ℕ) → Files → Outcome
+tool_outcome None words files = refused (status.Usage usage.Tool)
+tool_outcome (Some Info) words files = info_outcome words files
+
+-- the files afterwards: `ntfsinfo` shows, and changes none
+abbrev pub files_after : Option Tool → List (List ℕ) → Files → Files
+files_after None words files = files
+files_after (Some Info) words files = files
+
+unfoldable pub reply : List (List ℕ) → Files → SourceState → Reply
+reply words files input = record {
+  status = (tool_outcome (tool_of words) words files).status;
+  output = (tool_outcome (tool_of words) words files).output;
+  message = message_of words (tool_outcome (tool_of words) words files).status;
+  files = files_after (tool_of words) words files;
+}
+
+-- the statuses that can come
+abbrev pub IsListed : Status → Type 0
+IsListed status.Done = Unit {0}
+IsListed (status.Usage kind) = Unit {0}
+IsListed (status.Absent file) = Unit {0}
+IsListed status.NotNtfs = Unit {0}
+IsListed (status.BadGeometry field value) = Unit {0}
+IsListed (status.ImageShort len need) = Unit {0}
+IsListed status.ReadFault = Unit {0}
+IsListed status.WriteFault = Unit {0}
+IsListed status.NoMemory = Unit {0}
+IsListed other = ⊥
+
+-- the message line was put whole, unless a count of the sink rose, and then a front of it
+pub record PutsMessage (line : List ℕ) (old new : SinkState) (before after : SinkFaults) : Type 0 where
+  pub whole : (new ≡ after_put line old) ⊎ ((Rose before.failures after.failures) ⊎ (Rose before.wants after.wants))
+  pub front : (k : ℕ) × (k ≤ length line) × (new ≡ after_put (take k line) old)
