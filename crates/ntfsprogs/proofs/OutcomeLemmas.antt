@@ -1,13 +1,22 @@
 -- How answers give outcomes.
 use Rattle.std.proofs.Common.{◌≡◌, ◌≤◌, ◌<◌, ◌+◌, ℕ, List, [], ◌∷◌, ◌++◌, length, take, refl, sym, ap, subst, ◌∙◌, arith, Result, Ok, Err, Option, Some, None, IsTrue}
-use Rattle.ntfs_base.specs.Stream.{SinkState, after_put}
+use Rattle.std.proofs.Common.{inl, inr}
+use Rattle.std.proofs.lemmas.List.{take_all}
+use Rattle.ntfs_base.specs.Causes.{SinkCause}
+use Rattle.ntfs_base.specs.declared.fault.PutFault.{PutFault}
+use Rattle.ntfs_base.specs.declared.fault.PutFault.TheVariants as put
+use Rattle.ntfs_base.specs.declared.fault.SinkFaults.{SinkFaults}
+use Rattle.ntfsprogs.specs.Reply.{PutsMessage, files_after}
+use Rattle.ntfsprogs.specs.declared.words.Tool.{Tool}
+use Rattle.ntfsprogs.specs.declared.words.Tool.TheVariants.{Info}
+use Rattle.ntfs_base.specs.Stream.{SinkState, Put, after_put}
 use Rattle.ntfs_base.proofs.StreamLemmas.{after_put-nil}
 use Rattle.ntfs_base.specs.declared.meaning.Named.{Named}
 use Rattle.ntfs_base.specs.declared.meaning.Named.TheVariants as named
 use Rattle.ntfs_base.specs.declared.fault.ShelfFault.{ShelfFault}
 use Rattle.ntfs_base.specs.declared.fault.ShelfFault.TheVariants as shelf_fault
 use Rattle.ntfs_base.specs.declared.fault.Faults.{Faults}
-use Rattle.ntfs_base.specs.Shelf.{ShelfState, AttachCause, file_of}
+use Rattle.ntfs_base.specs.Shelf.{Files, ShelfState, AttachCause, file_of}
 use Rattle.ntfs_boot.specs.Geometry.{Judges}
 use Rattle.ntfs_boot.specs.declared.geometry.Geometry.{Geometry}
 use Rattle.ntfs_boot.specs.declared.volume.ImageFault.{ImageFault}
@@ -50,3 +59,17 @@ answers_attach shelf_fault.Absent shelf name old new sink told cause =
 answers_attach shelf_fault.Present shelf name old new sink told cause = absurd cause
 answers_attach shelf_fault.Failed shelf name old new sink told cause = answers_cut (file_outcome (file_of shelf.files name)) status.ReadFault sink (λ settled. settled)
 answers_attach shelf_fault.NoMemory shelf name old new sink told cause = answers_cut (file_outcome (file_of shelf.files name)) status.NoMemory sink (λ settled. settled)
+
+-- a put to the sink of messages, whose refusal the program doesn't answer
+pub puts_message : {T : Type 0} (line : List ℕ) (old new : SinkState) (before after : SinkFaults) (result : Result T PutFault) → Put line old result new → SinkCause before after result → PutsMessage line old new before after
+puts_message line old new before after (Ok x) is cause = record {
+  whole = inl is.whole;
+  front = (length line, omega arith, is.whole ∙ ap (λ bytes. after_put bytes old) (sym (take_all (length line) line (omega arith))));
+}
+puts_message line old new before after (Err put.Failed) is cause = record { whole = inr (inl cause.cause); front = is.part }
+puts_message line old new before after (Err put.NoMemory) is cause = record { whole = inr (inr cause.cause); front = is.part }
+
+-- no tool changes a file yet
+pub files_shown : (tool : Option Tool) (words : List (List ℕ)) (files : Files) → files_after tool words files ≡ files
+files_shown None words files = refl
+files_shown (Some Info) words files = refl

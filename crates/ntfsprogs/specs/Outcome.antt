@@ -48,11 +48,15 @@ IsSettled status.WriteFault = ⊥
 IsSettled status.NoMemory = ⊥
 IsSettled other = Unit {0}
 
+-- a front of these bytes was put
+abbrev pub PutsFront : List ℕ → SinkState → SinkState → Type 0
+PutsFront bytes old new = (k : ℕ) × (k ≤ length bytes) × (new ≡ after_put (take k bytes) old)
+
 -- an answer gives the outcome: its status and its output whole, unless the work was cut off, and then a front of the output
 pub record Answers (outcome : Outcome) (result : Status) (old new : SinkState) : Type 0 where
   pub status : IsSettled result → result ≡ outcome.status
   pub output : IsSettled result → new ≡ after_put outcome.output old
-  pub front : (k : ℕ) × (k ≤ length outcome.output) × (new ≡ after_put (take k outcome.output) old)
+  pub front : PutsFront outcome.output old new
 
 -- where the work was done, nothing waits to be written
 abbrev pub IsWhole : Status → Type 0 → Type 0

@@ -1,6 +1,6 @@
 -- What the program replies to the words of a command line, the files of the shelf and the input: a status, the bytes on the
 -- output, the message line, and the files afterwards. Each tool has a module of its own.
-use Rattle.std.specs.Prelude.{◌≡◌, ◌⊎◌, ◌≤◌, ℕ, List, length, take, Option, Some, None, map, string_bytes}
+use Rattle.std.specs.Prelude.{◌≡◌, ◌⊎◌, ℕ, List, Option, Some, None, map, string_bytes}
 use Rattle.ntfs_base.specs.Causes.{Rose}
 use Rattle.ntfs_base.specs.Shelf.{Files}
 use Rattle.ntfs_base.specs.Stream.{SinkState, SourceState, after_put}
@@ -8,7 +8,7 @@ use Rattle.ntfs_base.specs.declared.fault.SinkFaults.{SinkFaults}
 use Rattle.ntfs_base.specs.declared.meaning.UsageKind.TheVariants as usage
 use Rattle.ntfsprogs.specs.Info.{info_outcome, refused}
 use Rattle.ntfsprogs.specs.Message.{message_of}
-use Rattle.ntfsprogs.specs.Outcome.{Outcome}
+use Rattle.ntfsprogs.specs.Outcome.{Outcome, PutsFront}
 use Rattle.ntfsprogs.specs.Words.{tool_of}
 use Rattle.ntfsprogs.specs.declared.status.Status.{Status}
 use Rattle.ntfsprogs.specs.declared.status.Status.TheVariants as status
@@ -55,4 +55,9 @@ IsListed other = ⊥
 -- the message line was put whole, unless a count of the sink rose, and then a front of it
 pub record PutsMessage (line : List ℕ) (old new : SinkState) (before after : SinkFaults) : Type 0 where
   pub whole : (new ≡ after_put line old) ⊎ ((Rose before.failures after.failures) ⊎ (Rose before.wants after.wants))
-  pub front : (k : ℕ) × (k ≤ length line) × (new ≡ after_put (take k line) old)
+  pub front : PutsFront line old new
+
+-- a tool that only shows changes no file
+abbrev pub ShowsOnly : Option Tool → Type 0 → Type 0
+ShowsOnly None unchanged = unchanged
+ShowsOnly (Some Info) unchanged = unchanged

@@ -3,6 +3,7 @@
 
 mod info;
 mod message;
+mod run;
 mod status;
 mod words;
 

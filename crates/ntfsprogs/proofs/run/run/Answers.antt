@@ -1,0 +1,26 @@
+use Rattle.std.proofs.Common.{◌≡◌, sym, ap, ◌∙◌, map, string_bytes, Some, None}
+use Rattle.ntfsprogs.specs.Message.{message_of}
+use Rattle.ntfsprogs.specs.Reply.{reply, files_after}
+use Rattle.ntfsprogs.specs.Words.{tool_of}
+use Rattle.ntfsprogs.proofs.OutcomeLemmas.{files_shown}
+use Rattle.ntfsprogs.proofs.run.run.Goals as goal
+
+pub returns-clause-status : goal.returns-clause-status
+unfolding reply
+returns-clause-status g c told settled = (c.answer-status.ensures.answers told).status settled
+
+pub returns-clause-output : goal.returns-clause-output
+unfolding reply
+returns-clause-output g c told settled = (c.answer-status.ensures.answers told).output settled
+
+pub returns-clause-line : goal.returns-clause-line
+unfolding reply
+returns-clause-line g c told settled = ap (message_of (map string_bytes c.args.words.now)) ((c.answer-status.ensures.answers told).status settled)
+
+pub returns-clause-files : goal.returns-clause-files
+unfolding reply
+returns-clause-files g c told settled = ap (λ shelf. shelf.files) c.answer-status.ensures.seen ∙ sym (files_shown (tool_of (map string_bytes c.args.words.now)) _ _)
+
+pub returns-clause-front : goal.returns-clause-front
+unfolding reply
+returns-clause-front g c told = (c.answer-status.ensures.answers told).front
