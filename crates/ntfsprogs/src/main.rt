@@ -8,3 +8,6 @@ mod status;
 mod words;
 
 fn main() {}
+
+#[cfg(test)]
+mod tests;

@@ -31,7 +31,13 @@ fn push_status(line: &mut Line, status: &Status)
             b" value ",
             value,
         ),
-        Status::ImageShort { len, need } => push_two(line, b"image has ", len, b" bytes, needs ", need),
+        Status::ImageShort { len, need } => push_two(
+            line,
+            b"image has ",
+            len,
+            b" bytes, needs ",
+            need,
+        ),
         Status::Damaged { rule, number } => push_rule(line, b"damaged: rule ", rule, number),
         Status::Dirty => push_text(line, b"volume is dirty"),
         Status::ShortClusters { need, free } => {

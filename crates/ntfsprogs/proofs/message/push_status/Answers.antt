@@ -29,8 +29,8 @@ unfolding status_text
 returns-in-ShortGeometry-clause-value c = rw c.in-ShortGeometry.is
     (c.push_number-in-ShortGeometry-2.ensures.value
     ∙ ap (λ text. text ++ counted (codes ", needs ") c.in-ShortGeometry.need)
-        (c.push_number-in-ShortGeometry.ensures.value ∙ ap (λ text. text ++ counted (codes " has ") c.in-ShortGeometry.have)
-            (c.push_pair-in-ShortGeometry.ensures.value ∙ ap (λ lack. c.args.line.now ++ (codes "size out of range: " ++ lack)) c.lack_text.ensures.value))
+    (c.push_number-in-ShortGeometry.ensures.value ∙ ap (λ text. text ++ counted (codes " has ") c.in-ShortGeometry.have)
+    (c.push_pair-in-ShortGeometry.ensures.value ∙ ap (λ lack. c.args.line.now ++ (codes "size out of range: " ++ lack)) c.lack_text.ensures.value))
     ∙ append_three c.args.line.now (codes "size out of range: " ++ lack_text c.in-ShortGeometry.lack) (counted (codes " has ") c.in-ShortGeometry.have) (counted (codes ", needs ") c.in-ShortGeometry.need))
 
 pub returns-in-NotPlain-clause-value : goal.returns-in-NotPlain-clause-value
