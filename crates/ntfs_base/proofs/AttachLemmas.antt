@@ -18,8 +18,8 @@ kept_by_test false o here same = refl
 pub insert-same : (files : Files) (name bytes : List ℕ) → file_of files name ≡ Some bytes → insert files name bytes ≡ files
 insert-same files name bytes is =
     same_map nat_list_cmp_total (slice_cmp-IsAntisymmetric nat_cmp-IsAntisymmetric) (insert files name bytes) files
-        (λ q. get-insert nat_list_cmp_total files name bytes q ∙ ap (λ b. cond b (Some bytes) (get files q)) (sym (texts_ties q name))
-            ∙ kept_by_test (bytes_eq q name) (Some bytes) (get files q) (λ here. ap (get files) (same_name q name here) ∙ is))
+    (λ q. get-insert nat_list_cmp_total files name bytes q ∙ ap (λ b. cond b (Some bytes) (get files q)) (sym (texts_ties q name))
+    ∙ kept_by_test (bytes_eq q name) (Some bytes) (get files q) (λ here. ap (get files) (same_name q name here) ∙ is))
 
 files_kept : (told : Bool) (files : Files) (name bytes : List ℕ) → (IsTrue told → file_of files name ≡ Some bytes) → (if told then insert files name bytes else files) ≡ files
 files_kept true files name bytes is = insert-same files name bytes (is refl)

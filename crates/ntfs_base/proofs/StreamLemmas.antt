@@ -55,8 +55,11 @@ pub put_then : {T U E : Type 0} (a b : List ℕ) (first second third : SinkState
 put_then a b first second third x (Ok y) one two = record { whole = two.whole ∙ ap (after_put b) one.whole ∙ sym (after_put-append a b first); part = tt }
 put_then a b first second third x (Err e) one two = record {
   whole = tt;
-  part = (length a + two.part.0, omega (arith, two.part.1, length-append a b),
-    two.part.2 ∙ ap (after_put (take two.part.0 b)) one.whole ∙ sym (after_put-append a (take two.part.0 b) first) ∙ ap (λ bytes. after_put bytes first) (sym (take-append-add a b two.part.0)));
+  part = (
+    length a + two.part.0,
+    omega (arith, two.part.1, length-append a b),
+    two.part.2 ∙ ap (after_put (take two.part.0 b)) one.whole ∙ sym (after_put-append a (take two.part.0 b) first) ∙ ap (λ bytes. after_put bytes first) (sym (take-append-add a b two.part.0)),
+  );
 }
 
 -- what isn't reached isn't put

@@ -1,9 +1,9 @@
 -- What writes leave.
-use Rattle.std.proofs.Common.{◌≡◌, ◌≤◌, ◌+◌, ◌-◌, ℕ, List, [], ◌∷◌, ◌++◌, length, refl, ap, arith, length-append, if◌then◌else◌, Bool, true, false}
+use Rattle.std.proofs.Common.{◌≡◌, ◌≤◌, ◌+◌, ◌-◌, ℕ, List, [], ◌∷◌, ◌++◌, length, refl, ap, ◌∙◌, take, Result, Ok, Err, arith, length-append, if◌then◌else◌, Bool, true, false}
 use Rattle.std.proofs.lemmas.List.{length-take-le, length-drop, drop-drop}
 use borrow.Rule.Slice.PartMut.{put_mid}
 use Rattle.ntfs_base.specs.Image.{ImageState}
-use Rattle.ntfs_base.specs.Writes.{Write, overwritten, applied, after_writes}
+use Rattle.ntfs_base.specs.Writes.{Write, overwritten, applied, after_writes, Wrote}
 
 -- what a copy into a part of a slice leaves
 pub put_mid-overwritten : (at : ℕ) (content bytes part : List ℕ) → at + length bytes ≤ length content → part ≡ bytes → put_mid at (at + length bytes - at) content part ≡ overwritten (record { place = at; bytes = bytes }) content
@@ -42,3 +42,12 @@ same_if false content = refl
 pub after_writes-nil : (image : ImageState) → after_writes [] image ≡ image
 unfolding after_writes
 after_writes-nil image = ap (λ c. record image { content = c }) (same_if image.is_told image.content)
+
+after_writes-name : (ws : List Write) (image : ImageState) → (after_writes ws image).name ≡ image.name
+unfolding after_writes
+after_writes-name ws image = refl
+
+-- writes keep the name
+pub Wrote-name : {T E : Type 0} (ws : List Write) (old new : ImageState) (result : Result T E) → Wrote ws old result new → new.name ≡ old.name
+Wrote-name ws old new (Ok x) is = ap (λ image. image.name) is.whole ∙ after_writes-name ws old
+Wrote-name ws old new (Err e) is = ap (λ image. image.name) is.part.2 ∙ after_writes-name (take is.part.0 ws) old

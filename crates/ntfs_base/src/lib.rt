@@ -19,3 +19,6 @@ pub use meaning::{Lack, Missing, Named, Rule, UsageKind};
 pub use memory::{MemContent, MemFile, MemImage, MemShelf, MemSink, MemSource, Place};
 pub use shelf::Shelf;
 pub use stream::{Sink, Source};
+
+#[cfg(test)]
+mod tests;

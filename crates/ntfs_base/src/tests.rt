@@ -1,0 +1,176 @@
+//! What the devices in memory answer, with no call that fails and with some.
+ghost use Rattle.std.specs.Prelude.{◌≡◌, false};
+ghost use Rattle.ntfs_base.specs.Shelf.{has_name};
+
+use super::*;
+use std::alloc::{AllocError, Global};
+use std::test::Fail;
+
+fn bytes(alloc: Global, text: &[u8]) -> Result<Vec<u8>, AllocError> {
+    Vec::from_slice(alloc, text)
+}
+
+/// Reads a range at a type that is known by its bound alone.
+fn read<G: Image>(image: &mut G, at: u64, into: &mut [u8]) -> Option<Result<(), Failed>> {
+    if at > image.len() || into.len() as u64 > image.len() - at {
+        return None;
+    }
+    Some(image.read_at(at, into))
+}
+
+/// Writes a range at a type that is known by its bound alone.
+fn write<G: Image>(image: &mut G, at: u64, from: &[u8]) -> Option<Result<(), Failed>>
+    ensures { (G.seen image.new).name ≡ (G.seen image.old).name }
+{
+    if at > image.len() || from.len() as u64 > image.len() - at {
+        return None;
+    }
+    Some(image.write_at(at, from))
+}
+
+/// Attaches a file, writes two texts at its front, one after the other, and releases it.
+fn write_twice<S: Shelf>(
+    shelf: &mut S,
+    name: &str,
+    first: &[u8],
+    second: &[u8],
+) -> Result<[Option<Result<(), Failed>>; 2], ShelfFault>
+    requires { has_name name.now (S.seen shelf.old).attached ≡ false }
+{
+    let mut file = shelf.attach(name)?;
+    let one = write(&mut file, 0, first);
+    let two = write(&mut file, 0, second);
+    shelf.release(file);
+    Ok([one, two])
+}
+
+fn put<K: Sink>(sink: &mut K, text: &[u8]) -> Result<(), PutFault> {
+    sink.put(text)
+}
+
+fn flush<K: Sink>(sink: &mut K) -> Result<(), Failed> {
+    sink.flush()
+}
+
+fn take<S: Source>(source: &mut S, into: &mut [u8]) -> Result<usize, Failed> {
+    source.take(into)
+}
+
+#[test]
+fn an_image_is_read_and_written(rt: HostRuntime) -> Result<(), Fail> {
+    let alloc = rt.alloc();
+    let mut image = MemImage::new(alloc, bytes(alloc, b"0123456789")?);
+    image.inside.calls.fail(3, Leaves::Before)?;
+    image.inside.calls.fail(4, Leaves::Asked)?;
+    image.inside.calls.fail(5, Leaves::Before)?;
+    let mut into = [0; 3];
+    assert_eq!(rt; image.len(), 10);
+    assert_eq!(rt; write(&mut image, 7, b"abc"), Some(Ok(())));
+    assert_eq!(rt; read(&mut image, 6, &mut into), Some(Ok(())));
+    assert!(rt; into == *b"6ab");
+    assert_eq!(rt; write(&mut image, 0, b"XY"), Some(Err(Failed)));
+    assert_eq!(rt; image.inside.bytes.as_slice(), b"0123456abc".as_slice());
+    assert_eq!(rt; write(&mut image, 0, b"XY"), Some(Err(Failed)));
+    assert_eq!(rt; image.inside.bytes.as_slice(), b"XY23456abc".as_slice());
+    assert_eq!(rt; read(&mut image, 0, &mut into), Some(Err(Failed)));
+    assert_eq!(rt; image.sync(), Ok(()));
+    assert_eq!(rt; image.inside.calls.made, 6);
+    assert_eq!(rt;
+        image.inside.faults,
+        Faults {
+            reads: 1,
+            writes: 2
+        }
+    );
+    Ok(())
+}
+
+#[test]
+fn a_source_gives_each_byte_once(rt: HostRuntime) -> Result<(), Fail> {
+    let alloc = rt.alloc();
+    let mut source = MemSource::new(alloc, bytes(alloc, b"abcde")?);
+    source.calls.fail(2, Leaves::Before)?;
+    let mut into = [0; 3];
+    assert_eq!(rt; take(&mut source, &mut into), Ok(3));
+    assert!(rt; into == *b"abc");
+    assert_eq!(rt; take(&mut source, &mut into), Err(Failed));
+    assert_eq!(rt; take(&mut source, &mut into), Ok(2));
+    assert!(rt; into[0] == b'd' && into[1] == b'e');
+    assert_eq!(rt; take(&mut source, &mut into), Ok(0));
+    assert_eq!(rt; source.faults, 1);
+    Ok(())
+}
+
+#[test]
+fn a_sink_takes_a_front(rt: HostRuntime) -> Result<(), Fail> {
+    let alloc = rt.alloc();
+    let mut sink = MemSink::new(alloc);
+    sink.calls.fail(2, Leaves::Front { bytes: 2 })?;
+    sink.calls.fail(3, Leaves::Before)?;
+    assert_eq!(rt; put(&mut sink, b"abc"), Ok(()));
+    assert!(rt; !sink.is_flushed);
+    assert_eq!(rt; put(&mut sink, b"defg"), Err(PutFault::Failed));
+    assert_eq!(rt; sink.content.as_slice(), b"abcde".as_slice());
+    assert_eq!(rt; flush(&mut sink), Err(Failed));
+    assert!(rt; !sink.is_flushed);
+    assert_eq!(rt; flush(&mut sink), Ok(()));
+    assert!(rt; sink.is_flushed);
+    assert_eq!(rt;
+        sink.faults,
+        SinkFaults {
+            failures: 2,
+            wants: 0
+        }
+    );
+    Ok(())
+}
+
+#[test]
+fn a_shelf_numbers_the_calls_of_each_name(rt: HostRuntime) -> Result<(), Fail> {
+    let alloc = rt.alloc();
+    let mut shelf = MemShelf::new(alloc);
+    shelf.add("a", bytes(alloc, b"one")?)?;
+    shelf.add("b", bytes(alloc, b"two")?)?;
+    shelf.fail("a", 3, Leaves::Before)?;
+    shelf.fail("c", 2, Leaves::Before)?;
+    assert!(rt; shelf.attached.is_empty());
+    let written = write_twice(&mut shelf, "a", b"ONE", b"111")
+        .ok()
+        .ok_or("a isn't there")?;
+    assert!(rt; written == [Some(Ok(())), Some(Err(Failed))]);
+    assert_eq!(rt; shelf.content("a"), Some(b"ONE".as_slice()));
+    assert_eq!(rt; shelf.content("b"), Some(b"two".as_slice()));
+    assert_eq!(rt; shelf.made("a"), 3);
+    assert_eq!(rt;
+        shelf.faults,
+        Faults {
+            reads: 0,
+            writes: 1
+        }
+    );
+    Ok(())
+}
+
+#[test]
+fn a_shelf_refuses_what_it_has_not(rt: HostRuntime) -> Result<(), Fail> {
+    let alloc = rt.alloc();
+    let mut shelf = MemShelf::new(alloc);
+    shelf.fail("c", 2, Leaves::Before)?;
+    for want in [ShelfFault::Absent, ShelfFault::Failed, ShelfFault::Absent] {
+        assert!(rt; shelf.attached.is_empty());
+        assert!(rt; write_twice(&mut shelf, "c", b"", b"") == Err(want));
+    }
+    assert_eq!(rt; shelf.made("c"), 3);
+    assert_eq!(rt; shelf.faults.reads, 1);
+    Ok(())
+}
+
+#[test]
+fn a_line_is_built_from_texts_and_numbers(rt: HostRuntime) {
+    let mut line = Line::new();
+    line.push(b"a ");
+    line.push_number(18_446_744_073_709_551_615);
+    line.push(b" ");
+    line.push_hex(&[0x0A, 0xFF]);
+    assert_eq!(rt; line.as_bytes(), b"a 18446744073709551615 0aff".as_slice());
+}
