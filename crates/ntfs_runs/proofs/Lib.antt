@@ -1,0 +1,11 @@
+pub mod NumberLemmas
+pub mod FrontLemmas
+pub mod ReadingLemmas
+pub mod ItemsLemmas
+pub mod ClustersLemmas
+pub mod SizeLemmas
+pub mod WritingLemmas
+pub mod JoinLemmas
+pub mod WriterLemmas
+pub mod LawLemmas
+pub mod CauseLemmas

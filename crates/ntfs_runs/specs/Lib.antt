@@ -1,0 +1,7 @@
+pub mod Number
+pub mod Clusters
+pub mod Spelling
+pub mod Reading
+pub mod Canon
+pub mod Decoding
+pub mod Writing
