@@ -1,11 +1,10 @@
 -- A file that is handed out, only read, and released leaves the shelf as it was; and its faults are the shelf's.
-use Rattle.std.proofs.Common.{◌≡◌, ◌≤◌, ◌<◌, ◌+◌, ℕ, List, [], ◌∷◌, refl, sym, ap, ◌∙◌, arith, Bool, true, false, Option, Some, None, IsTrue, if◌then◌else◌, cond, min, ◌||◌}
+use Rattle.std.proofs.Common.{◌≡◌, ◌≤◌, ℕ, List, ◌∷◌, refl, sym, ap, ◌∙◌, arith, Bool, true, false, Option, Some, IsTrue, if◌then◌else◌, cond, ◌||◌}
 use Rattle.std.proofs.lemmas.Cmp.{nat_list_cmp_total}
-use Rattle.std.specs.Ordering.{nat_cmp, eq_by_cmp}
-use Rattle.std.specs.Cmp.Lexicographic.{slice_cmp, texts_ties}
+use Rattle.std.specs.Cmp.Lexicographic.{texts_ties}
 use Rattle.std.specs.FinMap.{get, insert, get-insert, same_map, slice_cmp-IsAntisymmetric, nat_cmp-IsAntisymmetric}
 use Rattle.std.specs.Str.{bytes_eq}
-use Rattle.ntfs_base.specs.Causes.{Rose, last_count}
+use Rattle.ntfs_base.specs.Causes.{Rose}
 use Rattle.ntfs_base.specs.Image.{ImageState}
 use Rattle.ntfs_base.specs.Shelf.{Files, ShelfState, file_of, has_name, without, after_attach, after_release, added_count}
 use Rattle.ntfs_base.proofs.ShelfLemmas.{same_name, name_same}

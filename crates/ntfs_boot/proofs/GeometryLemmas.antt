@@ -1,5 +1,5 @@
 -- The sizes that a signed byte tells, and geometry at the front of an image.
-use Rattle.std.proofs.Common.{◌≡◌, ◌≤◌, ◌<◌, ◌+◌, ◌-◌, ◌*◌, ◌^◌, ℕ, Bool, true, false, refl, sym, ap, ◌∙◌, arith, if◌then◌else◌, nat_lt, List, length, take, drop}
+use Rattle.std.proofs.Common.{◌≡◌, ◌≤◌, ◌<◌, ◌-◌, ◌*◌, ◌^◌, ℕ, true, false, refl, ap, ◌∙◌, arith, nat_lt, List, length, take}
 use Rattle.std.proofs.Math.Nat.{mul-le-mul_left}
 use Rattle.std.proofs.lemmas.Bool.Decides.{nat_tests}
 use Rattle.ntfs_base.proofs.BytesLemmas.{number_at-take, take-drop-take}

@@ -176,7 +176,11 @@ fn power_of_two(exponent: u32) -> Option<u32>
     requires { exponent ≤ 128 }
     ensures { SomeIff result (2 ^ exponent < 2 ^ 32) (2 ^ exponent) }
 {
-    if exponent < 32 { Some(1 << exponent) } else { None }
+    if exponent < 32 {
+        Some(1 << exponent)
+    } else {
+        None
+    }
 }
 
 #[tactic(auto, using(crate::proofs::GeometryLemmas::large_sizes))]
@@ -188,7 +192,11 @@ fn record_size_of(code: u8, cluster: u32) -> Option<u32>
     match coded_size(code, cluster) {
         None => None,
         Some(size) => {
-            if is_record_size(size) { Some(size) } else { None }
+            if is_record_size(size) {
+                Some(size)
+            } else {
+                None
+            }
         }
     }
 }
@@ -202,7 +210,11 @@ fn block_size_of(code: u8, cluster: u32) -> Option<u32>
     match coded_size(code, cluster) {
         None => None,
         Some(size) => {
-            if is_block_size(size) { Some(size) } else { None }
+            if is_block_size(size) {
+                Some(size)
+            } else {
+                None
+            }
         }
     }
 }

@@ -43,7 +43,11 @@ fn text_of(geometry: &Geometry) -> Line
     let mut text = Line::new();
     push_number_line(&mut text, Label::SectorSize, u64::from(geometry.sector));
     push_number_line(&mut text, Label::ClusterSize, u64::from(geometry.cluster));
-    push_number_line(&mut text, Label::RecordSize, u64::from(geometry.record_size));
+    push_number_line(
+        &mut text,
+        Label::RecordSize,
+        u64::from(geometry.record_size),
+    );
     push_number_line(&mut text, Label::IndexBlockSize, u64::from(geometry.block));
     push_number_line(&mut text, Label::Sectors, geometry.sectors);
     push_number_line(&mut text, Label::Clusters, geometry.clusters);

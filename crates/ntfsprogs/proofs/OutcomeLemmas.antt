@@ -1,5 +1,5 @@
 -- How answers give outcomes.
-use Rattle.std.proofs.Common.{◌≡◌, ◌≤◌, ◌<◌, ◌+◌, ℕ, List, [], ◌∷◌, ◌++◌, length, take, refl, sym, ap, subst, ◌∙◌, arith, Result, Ok, Err, Option, Some, None, IsTrue}
+use Rattle.std.proofs.Common.{◌≡◌, ℕ, List, length, refl, sym, ap, subst, ◌∙◌, arith, Result, Ok, Err, Option, Some, None, IsTrue}
 use Rattle.std.proofs.Common.{inl, inr}
 use Rattle.std.proofs.lemmas.List.{take_all}
 use Rattle.ntfs_base.specs.Causes.{SinkCause}
@@ -11,7 +11,6 @@ use Rattle.ntfsprogs.specs.declared.words.Tool.{Tool}
 use Rattle.ntfsprogs.specs.declared.words.Tool.TheVariants.{Info}
 use Rattle.ntfs_base.specs.Stream.{SinkState, Put, after_put}
 use Rattle.ntfs_base.proofs.StreamLemmas.{after_put-nil}
-use Rattle.ntfs_base.specs.declared.meaning.Named.{Named}
 use Rattle.ntfs_base.specs.declared.meaning.Named.TheVariants as named
 use Rattle.ntfs_base.specs.declared.fault.ShelfFault.{ShelfFault}
 use Rattle.ntfs_base.specs.declared.fault.ShelfFault.TheVariants as shelf_fault

@@ -1,6 +1,6 @@
 -- The line that says why a command was refused: the tool's word, a colon and a space, a text, and a line feed. The texts are
 -- this project's own.
-use Rattle.std.specs.Prelude.{◌==◌, ◌&&◌, ◌<◌, nat_lt, ℕ, List, [], ◌∷◌, ◌++◌, length, codes, Option, Some, None, if◌then◌else◌}
+use Rattle.std.specs.Prelude.{◌==◌, ◌&&◌, nat_lt, ℕ, List, [], ◌∷◌, ◌++◌, length, codes, Option, Some, None, if◌then◌else◌}
 use Rattle.std.specs.Fmt.{decimal}
 use Rattle.std.specs.Int.{w16, w32, to_be_bytes}
 use Rattle.hex.specs.Hex.{encode_lower}
@@ -9,7 +9,6 @@ use Rattle.ntfs_base.specs.declared.meaning.Lack.TheVariants as lack
 use Rattle.ntfs_base.specs.declared.meaning.Missing.{Missing}
 use Rattle.ntfs_base.specs.declared.meaning.Missing.TheVariants as missing
 use Rattle.ntfs_base.specs.declared.meaning.Named.{Named}
-use Rattle.ntfs_base.specs.declared.meaning.Named.TheVariants as named
 use Rattle.ntfs_base.specs.declared.meaning.Rule.{Rule}
 use Rattle.ntfs_base.specs.declared.meaning.Rule.TheVariants.{C1, C2, C3, C4, C5, C6, C7, C8, C9, C10, C11, C12, C13, C14, C15, C16}
 use Rattle.ntfs_base.specs.declared.meaning.UsageKind.{UsageKind}

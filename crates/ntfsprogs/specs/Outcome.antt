@@ -1,7 +1,6 @@
 -- What a tool answers: a status, and what it puts on the output. And how an answer of the program is tied to it. The words
 -- are ours.
 use Rattle.std.specs.Prelude.{◌≡◌, ◌≤◌, ℕ, List, length, take}
-use Rattle.ntfs_base.specs.Causes.{Rose}
 use Rattle.ntfs_base.specs.Stream.{SinkState, after_put}
 use Rattle.ntfs_base.specs.declared.fault.SinkFaults.{SinkFaults}
 use Rattle.ntfs_base.specs.declared.meaning.Named.{Named}

@@ -1,6 +1,6 @@
 -- What the program replies to the words of a command line, the files of the shelf and the input: a status, the bytes on the
 -- output, the message line, and the files afterwards. Each tool has a module of its own.
-use Rattle.std.specs.Prelude.{◌≡◌, ◌⊎◌, ℕ, List, Option, Some, None, map, string_bytes}
+use Rattle.std.specs.Prelude.{◌≡◌, ◌⊎◌, ℕ, List, Option, Some, None}
 use Rattle.ntfs_base.specs.Causes.{Rose}
 use Rattle.ntfs_base.specs.Shelf.{Files}
 use Rattle.ntfs_base.specs.Stream.{SinkState, SourceState, after_put}

@@ -1,4 +1,4 @@
-use Rattle.std.proofs.Common.{◌≡◌, ap, ◌∙◌}
+use Rattle.std.proofs.Common.{ap, ◌∙◌}
 use Rattle.ntfs_base.specs.Shelf.{has_name}
 use Rattle.ntfs_base.proofs.AttachLemmas.{has_name-attached}
 use Rattle.ntfs_base.proofs.tests.write_twice.Goals as goal

@@ -1,6 +1,4 @@
-use Rattle.std.proofs.Common.{rules, ◌≡◌, ◌<◌, ◌*◌, arith, sym, ap, ◌∙◌, subst}
-use Rattle.std.specs.Option.{SomeIff}
-use Rattle.ntfs_boot.specs.Geometry.{coded_size}
+use Rattle.std.proofs.Common.{◌*◌, ap}
 use Rattle.ntfs_boot.proofs.GeometryLemmas.{coded-clusters, coded-power, coded-lt}
 use Rattle.ntfs_boot.proofs.geometry.coded_size.Goals as goal
 

@@ -1,4 +1,4 @@
-use Rattle.std.proofs.Common.{rules, ◌≡◌, ◌≤◌, sym, ap, ◌∙◌, arith, length, take, Ok}
+use Rattle.std.proofs.Common.{◌≤◌, sym, ap, ◌∙◌, arith, length}
 use Rattle.ntfs_boot.specs.Geometry.{if_held, widened, sector_geometry}
 use Rattle.ntfs_boot.proofs.GeometryLemmas.{volume-short, volume-sector, Judges-same}
 use Rattle.ntfs_boot.proofs.volume.read_volume_geometry.Goals as goal

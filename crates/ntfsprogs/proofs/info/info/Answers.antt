@@ -1,6 +1,6 @@
-use Rattle.std.proofs.Common.{◌≡◌, sym, ap, ◌∙◌, subst}
+use Rattle.std.proofs.Common.{sym}
 use Rattle.ntfs_base.specs.declared.meaning.UsageKind.TheVariants as usage
-use Rattle.ntfsprogs.specs.Info.{info_outcome, image_outcome}
+use Rattle.ntfsprogs.specs.Info.{info_outcome}
 use Rattle.ntfsprogs.specs.declared.status.Status.TheVariants as status
 use Rattle.ntfsprogs.proofs.OutcomeLemmas.{answers_refused}
 use Rattle.ntfsprogs.proofs.info.info.Goals as goal

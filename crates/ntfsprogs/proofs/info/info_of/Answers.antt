@@ -1,4 +1,4 @@
-use Rattle.std.proofs.Common.{◌≡◌, sym, ap, ◌∙◌, true}
+use Rattle.std.proofs.Common.{ap, ◌∙◌}
 use Rattle.ntfs_base.specs.Shelf.{after_release, has_name}
 use Rattle.ntfs_base.proofs.AttachLemmas.{has_name-attached, after_release-attached}
 use Rattle.ntfsprogs.proofs.OutcomeLemmas.{answers_attach}

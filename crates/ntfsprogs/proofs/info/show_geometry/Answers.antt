@@ -1,4 +1,3 @@
-use Rattle.std.proofs.Common.{◌≡◌, sym, subst}
 use Rattle.ntfsprogs.proofs.OutcomeLemmas.{answers_image}
 use Rattle.ntfsprogs.proofs.info.show_geometry.Goals as goal
 

@@ -1,4 +1,4 @@
-use Rattle.std.proofs.Common.{◌≡◌, ◌++◌, sym, ap, ◌∙◌, append_assoc, codes}
+use Rattle.std.proofs.Common.{◌++◌, ap, ◌∙◌, append_assoc, codes}
 use Rattle.ntfsprogs.specs.Message.{counted, status_text, lack_text}
 use Rattle.ntfsprogs.proofs.MessageLemmas.{append_three}
 use Rattle.ntfsprogs.proofs.message.push_status.Goals as goal

@@ -1,6 +1,4 @@
-use Rattle.std.proofs.Common.{rules, ◌≡◌, sym, ap, subst}
 use Rattle.ntfs_base.proofs.StreamLemmas.{put_no_bytes}
-use Rattle.ntfsprogs.specs.Message.{message_of}
 use Rattle.ntfsprogs.proofs.message.put_message.Goals as goal
 
 pub returns-in-Done-clause-put : goal.returns-in-Done-clause-put

@@ -1,4 +1,4 @@
-use Rattle.std.proofs.Common.{rules, ◌≡◌, ◌∙◌, sym, arith, refl}
+use Rattle.std.proofs.Common.{rules, ◌∙◌, refl}
 use Rattle.ntfsprogs.proofs.MessageLemmas.{without_zeros-zero, without_zeros-last, without_zeros-other}
 use Rattle.ntfsprogs.proofs.message.without_zeros.Goals as goal
 

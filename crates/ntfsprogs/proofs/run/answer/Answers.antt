@@ -1,4 +1,4 @@
-use Rattle.std.proofs.Common.{◌≡◌, sym, ap, ◌∙◌}
+use Rattle.std.proofs.Common.{sym}
 use Rattle.ntfs_base.specs.declared.meaning.UsageKind.TheVariants as usage
 use Rattle.ntfsprogs.specs.declared.status.Status.TheVariants as status
 use Rattle.ntfsprogs.proofs.OutcomeLemmas.{answers_refused}

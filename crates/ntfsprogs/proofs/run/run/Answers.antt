@@ -1,6 +1,6 @@
-use Rattle.std.proofs.Common.{◌≡◌, sym, ap, ◌∙◌, map, string_bytes, Some, None}
+use Rattle.std.proofs.Common.{sym, ap, ◌∙◌, map, string_bytes}
 use Rattle.ntfsprogs.specs.Message.{message_of}
-use Rattle.ntfsprogs.specs.Reply.{reply, files_after}
+use Rattle.ntfsprogs.specs.Reply.{reply}
 use Rattle.ntfsprogs.specs.Words.{tool_of}
 use Rattle.ntfsprogs.proofs.OutcomeLemmas.{files_shown}
 use Rattle.ntfsprogs.proofs.run.run.Goals as goal

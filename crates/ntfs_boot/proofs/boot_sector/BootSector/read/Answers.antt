@@ -1,5 +1,4 @@
 use Rattle.std.proofs.Common.{sym, ◌∙◌, arith}
-use Rattle.ntfs_base.specs.Bytes.{number_at}
 use Rattle.ntfs_base.proofs.BytesLemmas.{number_at-byte, little_number-part}
 use Rattle.ntfs_boot.specs.BootSector.{fields_of}
 use Rattle.ntfs_boot.proofs.boot_sector.BootSector.read.Goals as goal

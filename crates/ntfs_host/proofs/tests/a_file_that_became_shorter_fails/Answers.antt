@@ -1,0 +1,8 @@
+use Rattle.std.proofs.Common.{ap, ◌∙◌}
+use Rattle.ntfs_base.specs.Image.{ImageState}
+use Rattle.ntfs_host.proofs.UntoldLemmas.{can_release}
+use Rattle.ntfs_host.proofs.tests.a_file_that_became_shorter_fails.Goals as goal
+
+pub release-requires : goal.release-requires
+release-requires c c' =
+    can_release _ _ _ _ (ap (λ (image : ImageState). image.name) c'.read_at.ensures.seen ∙ c'.in_ok-file.ensures.file.bears) c'.in_ok-file.ensures.attached

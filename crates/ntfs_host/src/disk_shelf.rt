@@ -1,0 +1,114 @@
+use crate::counting::refused;
+use crate::disk_file::{DiskFile, size_of};
+use ntfs_base::{Faults, Shelf, ShelfFault};
+use std::alloc::Global;
+use std::fs::{File, Files, OpenOptions};
+use std::io;
+
+/// The files of the system, by their paths. It opens each for reading and writing and, where that is refused, for reading
+/// alone; writes to such a file fail.
+#[derive(Drop)]
+pub struct DiskShelf<R> {
+    pub(crate) files: R,
+    /// The names that are attached now, the last one first.
+    pub(crate) attached: Vec<String>,
+    pub faults: Faults,
+}
+
+impl<R> DiskShelf<R> {
+    ghost use Rattle.std.specs.Prelude.{◌≡◌, []};
+    ghost use Rattle.ntfs_host.specs.Seen.{seen_shelf};
+
+    /// The files that a runtime reaches, of which none is attached. It takes no memory.
+    pub fn new(alloc: Global, files: R) -> DiskShelf<R>
+        ensures attached { (seen_shelf result).attached ≡ [] }
+        ensures reads { result.faults.reads ≡ 0 }
+        ensures writes { result.faults.writes ≡ 0 }
+    {
+        DiskShelf {
+            files,
+            attached: Vec::new(alloc),
+            faults: Faults {
+                reads: 0,
+                writes: 0,
+            },
+        }
+    }
+}
+
+fn open<R: Files<File = File>>(files: &R, name: &str) -> io::Result<(File, u64)> {
+    let mut file = match OpenOptions::new().read(true).write(true).open(files, name) {
+        Ok(file) => file,
+        Err(_) => File::open(files, name)?,
+    };
+    let size = size_of(&mut file)?;
+    Ok((file, size))
+}
+
+impl<R: Files<File = File>> Shelf for DiskShelf<R> {
+    type File = DiskFile;
+
+    ghost use Rattle.std.specs.Prelude.{◌≡◌, ◌≢◌, IfOk, IfErr, OnOk, OnErr};
+    ghost use Rattle.ntfs_base.specs.Shelf.{IsHandedOut, after_attach};
+    ghost use Rattle.ntfs_host.specs.Counting.{faults_after};
+    ghost use Rattle.ntfs_host.specs.Seen.{seen_file, seen_shelf};
+
+    ghost seen = { seen_shelf };
+
+    ghost faults = { λ shelf. shelf.faults };
+
+    fn attach(&mut self, name: &str) -> Result<DiskFile, ShelfFault>
+        ensures file { IfOk result (λ file. IsHandedOut (seen_shelf self.old) name.now (seen_file file) file.faults) }
+        ensures attached { OnOk result (seen_shelf self.new ≡ after_attach name.now (seen_shelf self.old)) }
+        ensures refused { OnErr result (seen_shelf self.new ≡ seen_shelf self.old) }
+        ensures counted { IfErr result (λ fault. self.new.faults ≡ faults_after fault self.old.faults) }
+        ensures uncounted { OnOk result (self.new.faults ≡ self.old.faults) }
+        ensures never_present { IfErr result (λ fault. fault ≢ ShelfFault.Present) }
+    {
+        let alloc = *self.attached.allocator();
+        let text = String::from_str(alloc, name)?;
+        let bears = text.clone()?;
+        self.attached.reserve(1)?;
+        match open(&self.files, name) {
+            Ok((file, size)) => {
+                self.attached.insert(0, text).unwrap();
+                Ok(DiskFile::new(bears, file, size))
+            }
+            Err(error) => Err(refused(&mut self.faults, &error)),
+        }
+    }
+
+    fn release(&mut self, file: DiskFile) {
+        let DiskFile {
+            name,
+            file: _,
+            size: _,
+            faults,
+        } = file;
+        remove_name(&mut self.attached, name.as_str());
+        self.faults.reads = self.faults.reads.saturating_add(faults.reads);
+        self.faults.writes = self.faults.writes.saturating_add(faults.writes);
+    }
+}
+
+ghost use Rattle.std.specs.Prelude.{◌≡◌, map, string_bytes};
+ghost use Rattle.std.specs.Str.{bytes_eq};
+ghost use Rattle.ntfs_base.specs.Shelf.{without};
+
+/// Takes the first of a name away.
+fn remove_name(names: &mut Vec<String>, name: &str)
+    ensures { map string_bytes names.new.items ≡ without name.now (map string_bytes names.old.items) }
+{
+    'names: for index in 0..names.len() {
+        if is_named(&names[index], name) {
+            names.remove(index);
+            return;
+        }
+    }
+}
+
+fn is_named(text: &String, name: &str) -> bool
+    ensures { result ≡ bytes_eq name.now (string_bytes text.now) }
+{
+    name == text.as_str()
+}

@@ -1,0 +1,17 @@
+//! The real outside: files on disk and the three standard streams. They tell nothing of content.
+#![tactic(auto)]
+
+mod counting;
+mod disk_file;
+mod disk_shelf;
+mod input;
+mod messages;
+mod output;
+#[cfg(test)]
+mod tests;
+
+pub use disk_file::DiskFile;
+pub use disk_shelf::DiskShelf;
+pub use input::StdInput;
+pub use messages::StdMessages;
+pub use output::StdOutput;

@@ -1,0 +1,246 @@
+ghost use Rattle.std.specs.Prelude.{◌≡◌, false};
+ghost use Rattle.ntfs_base.specs.Shelf.{has_name};
+
+use crate::{DiskShelf, StdInput, StdMessages, StdOutput};
+use ntfs_base::{Failed, Image, PutFault, Shelf, ShelfFault, Sink, Source};
+use std::alloc::Allocator;
+use std::fs::{Files, Metadata, OpenOptions};
+use std::io::{ErrorKind, Read, Write};
+use std::test::Fail;
+use std::{fs, io};
+
+/// Files that can't be opened for writing, nor for reading where that has an error.
+#[derive(Drop)]
+struct Refusing<R> {
+    files: R,
+    writing: ErrorKind,
+    reading: Option<ErrorKind>,
+}
+
+impl<R: Files> Files for Refusing<R> {
+    type File = R::File;
+
+    type Dir = R::Dir;
+
+    fn open_file(&self, how: &OpenOptions, path: &str) -> io::Result<R::File> {
+        if how.asks_write() {
+            return Err(io::Error::from(self.writing));
+        }
+        match self.reading {
+            Some(kind) => Err(io::Error::from(kind)),
+            None => self.files.open_file(how, path),
+        }
+    }
+
+    fn open_dir(&self, path: &str) -> io::Result<R::Dir> {
+        self.files.open_dir(path)
+    }
+
+    fn metadata(&self, path: &str) -> io::Result<Metadata> {
+        self.files.metadata(path)
+    }
+
+    fn symlink_metadata(&self, path: &str) -> io::Result<Metadata> {
+        self.files.symlink_metadata(path)
+    }
+
+    fn copy(&self, from: &str, to: &str) -> io::Result<u64> {
+        self.files.copy(from, to)
+    }
+
+    fn rename(&self, from: &str, to: &str) -> io::Result<()> {
+        self.files.rename(from, to)
+    }
+
+    fn remove_file(&self, path: &str) -> io::Result<()> {
+        self.files.remove_file(path)
+    }
+
+    fn create_dir(&self, path: &str) -> io::Result<()> {
+        self.files.create_dir(path)
+    }
+
+    fn remove_dir(&self, path: &str) -> io::Result<()> {
+        self.files.remove_dir(path)
+    }
+
+    fn remove_dir_all<B: Allocator>(&self, alloc: B, path: &str) -> io::Result<()> {
+        self.files.remove_dir_all(alloc, path)
+    }
+}
+
+/// A stream of which each call fails.
+#[derive(Drop)]
+struct Broken;
+
+impl Write for Broken {
+    fn write(&mut self, _bytes: &[u8]) -> io::Result<usize> {
+        Err(io::Error::from(ErrorKind::StorageFull))
+    }
+
+    fn flush(&mut self) -> io::Result<()> {
+        Ok(())
+    }
+}
+
+impl Read for Broken {
+    fn read(&mut self, _into: &mut [u8]) -> io::Result<usize> {
+        Err(io::Error::from(ErrorKind::Other))
+    }
+}
+
+fn put_any<S: Sink>(sink: &mut S, bytes: &[u8]) -> Result<(), PutFault> {
+    sink.put(bytes)
+}
+
+fn take_any<S: Source>(source: &mut S, into: &mut [u8]) -> Result<usize, Failed> {
+    source.take(into)
+}
+
+fn attach_any<S: Shelf>(shelf: &mut S, name: &str) -> Result<S::File, ShelfFault>
+    requires { has_name name.now (S.seen shelf.old).attached ≡ false }
+{
+    shelf.attach(name)
+}
+
+fn sync_any<I: Image>(image: &mut I) -> Result<(), Failed>
+    ensures { I.seen image.new ≡ I.seen image.old }
+{
+    image.sync()
+}
+
+#[test]
+fn a_file_is_written_and_found_again(rt: HostRuntime) -> Result<(), Fail> {
+    let name = "host_written.img";
+    fs::write(&rt, name, [7u8; 5000].as_slice())?;
+    let mut shelf = DiskShelf::new(rt.alloc(), &rt);
+    let mut file = shelf.attach(name)?;
+    assert_eq!(rt; file.len(), 5000);
+    file.write_at(4998, b"ab")?;
+    sync_any(&mut file)?;
+    shelf.release(file);
+    assert!(rt; shelf.attached.is_empty());
+    let mut again = shelf.attach(name)?;
+    assert_eq!(rt; again.len(), 5000);
+    let mut end = [0u8; 4];
+    again.read_at(4996, &mut end)?;
+    assert_eq!(rt; end, *b"\x07\x07ab");
+    fs::remove_file(&rt, name)?;
+    Ok(())
+}
+
+#[test]
+fn a_missing_file_is_absent_and_a_directory_fails(rt: HostRuntime) {
+    let mut shelf = DiskShelf::new(rt.alloc(), &rt);
+    assert!(rt;
+        matches!(
+            attach_any(&mut shelf, "host_missing.img"),
+            Err(ShelfFault::Absent)
+        )
+    );
+    assert_eq!(rt; shelf.faults.reads, 0);
+    let mut shelf = DiskShelf::new(rt.alloc(), &rt);
+    assert!(rt; matches!(shelf.attach("."), Err(ShelfFault::Failed)));
+    assert_eq!(rt; shelf.faults.reads, 1);
+}
+
+#[test]
+fn a_file_that_became_shorter_fails(rt: HostRuntime) -> Result<(), Fail> {
+    let name = "host_shorter.img";
+    fs::write(&rt, name, [7u8; 512].as_slice())?;
+    let mut shelf = DiskShelf::new(rt.alloc(), &rt);
+    let mut file = shelf.attach(name)?;
+    fs::write(&rt, name, [7u8; 100].as_slice())?;
+    assert_eq!(rt; file.len(), 512);
+    let mut sector = [0u8; 512];
+    assert_eq!(rt; file.read_at(0, &mut sector), Err(Failed));
+    assert_eq!(rt; file.faults.reads, 1);
+    shelf.release(file);
+    assert_eq!(rt; shelf.faults.reads, 1);
+    fs::remove_file(&rt, name)?;
+    Ok(())
+}
+
+#[test]
+fn a_file_that_is_opened_for_reading_alone_refuses_writes(rt: HostRuntime) -> Result<(), Fail> {
+    let name = "host_read_only.img";
+    fs::write(&rt, name, [7u8; 16].as_slice())?;
+    let files = Refusing {
+        files: &rt,
+        writing: ErrorKind::PermissionDenied,
+        reading: None,
+    };
+    let mut shelf = DiskShelf::new(rt.alloc(), files);
+    let mut file = attach_any(&mut shelf, name)?;
+    assert_eq!(rt; file.len(), 16);
+    let mut byte = [0u8; 1];
+    file.read_at(15, &mut byte)?;
+    assert_eq!(rt; byte, [7]);
+    assert_eq!(rt; file.write_at(0, b"a"), Err(Failed));
+    assert_eq!(rt; file.faults.writes, 1);
+    assert_eq!(rt; file.faults.reads, 0);
+    fs::remove_file(&rt, name)?;
+    Ok(())
+}
+
+#[test]
+fn an_error_of_the_system_gives_its_refusal(rt: HostRuntime) {
+    for (kind, refusal, reads) in [
+        (ErrorKind::NotFound, ShelfFault::Absent, 0),
+        (ErrorKind::OutOfMemory, ShelfFault::NoMemory, 0),
+        (ErrorKind::PermissionDenied, ShelfFault::Failed, 1),
+    ] {
+        let files = Refusing {
+            files: &rt,
+            writing: kind,
+            reading: Some(kind),
+        };
+        let mut shelf = DiskShelf::new(rt.alloc(), files);
+        assert_eq!(rt; shelf.attach("host_refused.img").err(), Some(refusal));
+        assert_eq!(rt; shelf.faults.reads, reads);
+    }
+}
+
+#[test]
+fn streams_take_and_give(rt: HostRuntime) -> Result<(), Fail> {
+    let mut out = StdOutput::new(rt.alloc(), rt.stdout())?;
+    assert!(rt; put_any(&mut out, b"a line\n").is_ok());
+    assert_eq!(rt; out.writer.buffer(), b"a line\n".as_slice());
+    assert!(rt; out.flush().is_ok());
+    assert!(rt; out.writer.buffer().is_empty());
+    let mut messages = StdMessages::new(rt.stderr());
+    assert!(rt; put_any(&mut messages, b"a message\n").is_ok());
+    assert!(rt; messages.flush().is_ok());
+    let mut input = StdInput::new(rt.stdin());
+    let mut bytes = [0u8; 16];
+    assert_eq!(rt; take_any(&mut input, &mut bytes), Ok(0));
+    Ok(())
+}
+
+#[test]
+fn output_goes_on_in_large_pieces(rt: HostRuntime) -> Result<(), Fail> {
+    let mut out = StdOutput::new(rt.alloc(), Vec::new(rt.alloc()))?;
+    'puts: for _ in 0..100 {
+        assert!(rt; out.put(&[7u8; 1000]).is_ok());
+    }
+    assert_eq!(rt; out.writer.get_ref().len(), 65_000);
+    assert!(rt; out.flush().is_ok());
+    assert_eq!(rt; out.writer.get_ref().len(), 100_000);
+    Ok(())
+}
+
+#[test]
+fn a_stream_that_fails_is_counted(rt: HostRuntime) -> Result<(), Fail> {
+    let mut out = StdOutput::new(rt.alloc(), Broken)?;
+    assert!(rt; out.put(b"a line\n").is_ok());
+    assert_eq!(rt; out.flush(), Err(Failed));
+    assert_eq!(rt; out.faults.failures, 1);
+    assert!(rt; !out.is_flushed);
+    let mut messages = StdMessages::new(Broken);
+    assert_eq!(rt; messages.put(b"a message\n"), Err(PutFault::Failed));
+    assert_eq!(rt; messages.faults.failures, 1);
+    let mut input = StdInput::new(Broken);
+    assert_eq!(rt; input.take(&mut [0u8; 16]), Err(Failed));
+    assert_eq!(rt; input.faults, 1);
+    Ok(())
+}
