@@ -1,6 +1,7 @@
 //! NTFS image tools in one program, whose first word names a tool.
 #![tactic(auto)]
 
+mod arguments;
 mod info;
 mod message;
 mod run;
@@ -9,10 +10,10 @@ mod status;
 mod tests;
 mod words;
 
+use arguments::{ArgumentFault, arguments};
 use ntfs_base::Sink;
 use ntfs_host::{DiskShelf, StdInput, StdMessages, StdOutput};
-use std::env;
-use std::io::ErrorKind;
+use run::run;
 use std::process::ExitCode;
 
 /// The exit status where memory is wanting.
@@ -22,34 +23,26 @@ const NO_MEMORY: u8 = 12;
 const NO_TEXT: u8 = 16;
 
 /// Runs the words of the command line over the files of the system and the standard streams, and ends with the code of
-/// the status.
+/// the status. Where there are no words to be had it prints nothing.
 fn main(rt: HostRuntime) -> ExitCode {
-    let words = match words_of_line(&rt) {
+    ExitCode::from(exit_status(&rt))
+}
+
+fn exit_status(rt: &HostRuntime) -> u8 {
+    let words = match arguments(rt) {
         Ok(words) => words,
-        Err(code) => return ExitCode::from(code),
+        Err(ArgumentFault::NoMemory) => return NO_MEMORY,
+        Err(ArgumentFault::NoText) => return NO_TEXT,
     };
     let alloc = rt.alloc();
     let Ok(mut out) = StdOutput::new(alloc, rt.stdout()) else {
-        return ExitCode::from(NO_MEMORY);
+        return NO_MEMORY;
     };
+    let mut shelf = DiskShelf::new(alloc, rt);
     let mut input = StdInput::new(rt.stdin());
     let mut err = StdMessages::new(rt.stderr());
-    let mut shelf = DiskShelf::new(alloc, rt);
-    let status = run::run(alloc, &words, &mut shelf, &mut input, &mut out, &mut err);
+    let status = run(alloc, &words, &mut shelf, &mut input, &mut out, &mut err);
     // What was put before a refusal is printed too.
     let _ = out.flush();
-    ExitCode::from(status.code())
-}
-
-/// The words of the command line without the program's own name, or the exit status where there are none to be had.
-fn words_of_line(rt: &HostRuntime) -> Result<Vec<String>, u8> {
-    let all = match env::args(rt) {
-        Ok(all) => all,
-        Err(error) if error.kind() == ErrorKind::InvalidData => return Err(NO_TEXT),
-        Err(_) => return Err(NO_MEMORY),
-    };
-    match all.skip(1).collect(rt.alloc()) {
-        Ok(words) => Ok(words),
-        Err(_) => Err(NO_MEMORY),
-    }
+    status.code()
 }

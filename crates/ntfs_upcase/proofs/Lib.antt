@@ -1,0 +1,3 @@
+pub mod NamesLemmas
+pub mod CollationLemmas
+pub mod TextLemmas
