@@ -1,6 +1,6 @@
 -- The geometry of a volume, and the first thing that is wrong with a boot sector (the Linux-NTFS documentation, "$Boot").
 -- The ranges are this project's own.
-use Rattle.std.specs.Prelude.{◌≡◌, ◌+◌, ◌-◌, ◌*◌, ◌/◌, ◌^◌, ◌<◌, ◌≤◌, ◌==◌, ◌&&◌, ◌||◌, ℕ, Bool, List, [], ◌∷◌, length, nat_lt, nat_le, if◌then◌else◌, Option, Some, None, Result, Ok, Err}
+use Rattle.std.specs.Prelude.{◌≡◌, ◌+◌, ◌-◌, ◌*◌, ◌/◌, ◌%◌, ◌^◌, ◌<◌, ◌≤◌, ◌==◌, ◌&&◌, ◌||◌, ℕ, Bool, List, [], ◌∷◌, length, nat_lt, nat_le, if◌then◌else◌, Option, Some, None, Result, Ok, Err}
 use Rattle.std.specs.Str.{bytes_eq}
 use Rattle.ntfs_boot.specs.BootSector.{oem_id_of, ntfs_id, fields_of}
 use Rattle.ntfs_boot.specs.declared.boot_sector.BootSector.{BootSector}
@@ -142,8 +142,10 @@ pub record IsGood (g : Geometry) : Type 0 where
   pub most_cluster : g.cluster ≤ 65536
   pub least_record : 1024 ≤ g.record_size
   pub most_record : g.record_size ≤ 4096
+  pub record_strides : g.record_size % 512 ≡ 0
   pub least_block : 1024 ≤ g.block
   pub most_block : g.block ≤ 65536
+  pub block_strides : g.block % 512 ≡ 0
   pub some_clusters : 0 < g.clusters
   pub most_clusters : g.clusters < 2 ^ 32
   pub mft : g.mft + clusters_for g.record_size g.cluster ≤ g.clusters

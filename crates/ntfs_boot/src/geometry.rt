@@ -1,4 +1,4 @@
-ghost use Rattle.std.specs.Prelude.{◌≡◌, ◌<◌, ◌^◌, ◌*◌, ◌≤◌, ◌+◌, length, MatchOption, IfOk, IfSome, SomeIff, true, false};
+ghost use Rattle.std.specs.Prelude.{◌≡◌, ◌<◌, ◌^◌, ◌*◌, ◌≤◌, ◌+◌, ◌%◌, length, MatchOption, IfOk, IfSome, SomeIff, true, false};
 ghost use Rattle.std.specs.Str.{bytes_eq};
 ghost use Rattle.ntfs_boot.specs.BootSector.{oem_id_of, ntfs_id};
 ghost use Rattle.ntfs_boot.specs.Geometry.{IsGood, boot_geometry, clusters_for, coded_size, is_block_size, is_cluster_count, is_record_size, is_sector_count, is_sector_size, lies_within, sector_geometry};
@@ -188,6 +188,7 @@ fn record_size_of(code: u8, cluster: u32) -> Option<u32>
     requires { cluster ≤ 65536 }
     ensures value { MatchOption result (is_record_size (coded_size code cluster) ≡ false) (λ size. (is_record_size (coded_size code cluster) ≡ true) × (size ≡ coded_size code cluster)) }
     ensures bounds { IfSome result (λ size. (1024 ≤ size) × (size ≤ 4096)) }
+    ensures strides { IfSome result (λ size. size % 512 ≡ 0) }
 {
     match coded_size(code, cluster) {
         None => None,
@@ -206,6 +207,7 @@ fn block_size_of(code: u8, cluster: u32) -> Option<u32>
     requires { cluster ≤ 65536 }
     ensures value { MatchOption result (is_block_size (coded_size code cluster) ≡ false) (λ size. (is_block_size (coded_size code cluster) ≡ true) × (size ≡ coded_size code cluster)) }
     ensures bounds { IfSome result (λ size. (1024 ≤ size) × (size ≤ 65536)) }
+    ensures strides { IfSome result (λ size. size % 512 ≡ 0) }
 {
     match coded_size(code, cluster) {
         None => None,
@@ -224,6 +226,7 @@ fn is_block_size(bytes: u32) -> bool
     ensures value { result ≡ is_block_size bytes }
     ensures least { result ≡ true → 1024 ≤ bytes }
     ensures most { result ≡ true → bytes ≤ 65536 }
+    ensures strides { result ≡ true → bytes % 512 ≡ 0 }
 {
     bytes == 1024
         || bytes == 2048
@@ -239,6 +242,7 @@ fn is_record_size(bytes: u32) -> bool
     ensures value { result ≡ is_record_size bytes }
     ensures least { result ≡ true → 1024 ≤ bytes }
     ensures most { result ≡ true → bytes ≤ 4096 }
+    ensures strides { result ≡ true → bytes % 512 ≡ 0 }
 {
     bytes == 1024 || bytes == 2048 || bytes == 4096
 }

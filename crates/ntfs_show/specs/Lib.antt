@@ -1,5 +1,14 @@
+pub use Rattle.ntfs_base.specs.Bytes
 pub use Rattle.ntfs_base.specs.Causes
 pub use Rattle.ntfs_base.specs.Stream
 pub use Rattle.ntfs_boot.specs.Geometry
 pub mod Info
 pub mod Fault
+pub mod Records
+pub mod Cells
+pub mod Gather
+pub mod MftMap
+pub mod StreamBytes
+pub mod Cat
+pub mod Reading
+pub mod Putting

@@ -1,2 +1,4 @@
 pub mod MessageLemmas
 pub mod OutcomeLemmas
+pub mod NumberLemmas
+pub mod CatLemmas

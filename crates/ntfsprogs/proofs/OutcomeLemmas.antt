@@ -8,7 +8,7 @@ use Rattle.ntfs_base.specs.declared.fault.PutFault.TheVariants as put
 use Rattle.ntfs_base.specs.declared.fault.SinkFaults.{SinkFaults}
 use Rattle.ntfsprogs.specs.Reply.{PutsMessage, files_after}
 use Rattle.ntfsprogs.specs.declared.words.Tool.{Tool}
-use Rattle.ntfsprogs.specs.declared.words.Tool.TheVariants.{Info}
+use Rattle.ntfsprogs.specs.declared.words.Tool.TheVariants.{Info, Cat}
 use Rattle.ntfs_base.specs.Stream.{SinkState, Put, after_put}
 use Rattle.ntfs_base.proofs.StreamLemmas.{after_put-nil}
 use Rattle.ntfs_base.specs.declared.meaning.Named.TheVariants as named
@@ -20,7 +20,7 @@ use Rattle.ntfs_boot.specs.Geometry.{Judges}
 use Rattle.ntfs_boot.specs.declared.geometry.Geometry.{Geometry}
 use Rattle.ntfs_boot.specs.declared.volume.ImageFault.{ImageFault}
 use Rattle.ntfs_boot.specs.declared.volume.ImageFault.TheVariants as image
-use Rattle.ntfsprogs.specs.Info.{file_outcome, geometry_outcome, refused}
+use Rattle.ntfsprogs.specs.Info.{geometry_outcome, refused}
 use Rattle.ntfsprogs.specs.Outcome.{Outcome, Answers, IsSettled, image_status, attach_status}
 use Rattle.ntfsprogs.specs.declared.status.Status.{Status}
 use Rattle.ntfsprogs.specs.declared.status.Status.TheVariants as status
@@ -50,14 +50,15 @@ answers_image (image.ImageShort len need) expected sink is =
     subst (λ e. Answers (geometry_outcome e) (status.ImageShort len need) sink sink) (sym is) (answers_refused (status.ImageShort len need) sink)
 answers_image image.ReadFault expected sink is = answers_cut (geometry_outcome expected) status.ReadFault sink (λ settled. settled)
 
--- the image wasn't attached
-pub answers_attach : (fault : ShelfFault) (shelf : ShelfState) (name : List ℕ) (old new : Faults) (sink : SinkState) → IsTrue shelf.is_told → AttachCause fault shelf name old new
-    → Answers (file_outcome (file_of shelf.files name)) (attach_status named.Image fault) sink sink
-answers_attach shelf_fault.Absent shelf name old new sink told cause =
-    subst (λ f. Answers (file_outcome f) (status.Absent named.Image) sink sink) (sym (cause told)) (answers_refused (status.Absent named.Image) sink)
-answers_attach shelf_fault.Present shelf name old new sink told cause = absurd cause
-answers_attach shelf_fault.Failed shelf name old new sink told cause = answers_cut (file_outcome (file_of shelf.files name)) status.ReadFault sink (λ settled. settled)
-answers_attach shelf_fault.NoMemory shelf name old new sink told cause = answers_cut (file_outcome (file_of shelf.files name)) status.NoMemory sink (λ settled. settled)
+-- the image wasn't attached, and the outcome for a file that isn't there is its refusal
+pub answers_attach : (outcome : Option (List ℕ) → Outcome) → outcome None ≡ refused (status.Absent named.Image)
+    → (fault : ShelfFault) (shelf : ShelfState) (name : List ℕ) (old new : Faults) (sink : SinkState) → IsTrue shelf.is_told → AttachCause fault shelf name old new
+    → Answers (outcome (file_of shelf.files name)) (attach_status named.Image fault) sink sink
+answers_attach outcome none shelf_fault.Absent shelf name old new sink told cause =
+    subst (λ o. Answers o (status.Absent named.Image) sink sink) (sym (ap outcome (cause told) ∙ none)) (answers_refused (status.Absent named.Image) sink)
+answers_attach outcome none shelf_fault.Present shelf name old new sink told cause = absurd cause
+answers_attach outcome none shelf_fault.Failed shelf name old new sink told cause = answers_cut (outcome (file_of shelf.files name)) status.ReadFault sink (λ settled. settled)
+answers_attach outcome none shelf_fault.NoMemory shelf name old new sink told cause = answers_cut (outcome (file_of shelf.files name)) status.NoMemory sink (λ settled. settled)
 
 -- a put to the sink of messages, whose refusal the program doesn't answer
 pub puts_message : {T : Type 0} (line : List ℕ) (old new : SinkState) (before after : SinkFaults) (result : Result T PutFault) → Put line old result new → SinkCause before after result → PutsMessage line old new before after
@@ -72,3 +73,4 @@ puts_message line old new before after (Err put.NoMemory) is cause = record { wh
 pub files_shown : (tool : Option Tool) (words : List (List ℕ)) (files : Files) → files_after tool words files ≡ files
 files_shown None words files = refl
 files_shown (Some Info) words files = refl
+files_shown (Some Cat) words files = refl

@@ -6,5 +6,7 @@ pub mod Words
 pub mod Code
 pub mod Outcome
 pub mod Info
+pub mod Numbers
+pub mod Cat
 pub mod Message
 pub mod Reply

@@ -6,6 +6,7 @@ use Rattle.ntfs_base.specs.Shelf.{Files}
 use Rattle.ntfs_base.specs.Stream.{SinkState, SourceState, after_put}
 use Rattle.ntfs_base.specs.declared.fault.SinkFaults.{SinkFaults}
 use Rattle.ntfs_base.specs.declared.meaning.UsageKind.TheVariants as usage
+use Rattle.ntfsprogs.specs.Cat.{cat_line_outcome}
 use Rattle.ntfsprogs.specs.Info.{info_outcome, refused}
 use Rattle.ntfsprogs.specs.Message.{message_of}
 use Rattle.ntfsprogs.specs.Outcome.{Outcome, PutsFront}
@@ -13,7 +14,7 @@ use Rattle.ntfsprogs.specs.Words.{tool_of}
 use Rattle.ntfsprogs.specs.declared.status.Status.{Status}
 use Rattle.ntfsprogs.specs.declared.status.Status.TheVariants as status
 use Rattle.ntfsprogs.specs.declared.words.Tool.{Tool}
-use Rattle.ntfsprogs.specs.declared.words.Tool.TheVariants.{Info}
+use Rattle.ntfsprogs.specs.declared.words.Tool.TheVariants.{Info, Cat}
 
 pub record Reply : Type 0 where
   pub status : Status
@@ -25,11 +26,13 @@ pub record Reply : Type 0 where
 abbrev pub tool_outcome : Option Tool → List (List ℕ) → Files → Outcome
 tool_outcome None words files = refused (status.Usage usage.Tool)
 tool_outcome (Some Info) words files = info_outcome words files
+tool_outcome (Some Cat) words files = cat_line_outcome words files
 
--- the files afterwards: `ntfsinfo` shows, and changes none
+-- the files afterwards: a tool that only shows changes none
 abbrev pub files_after : Option Tool → List (List ℕ) → Files → Files
 files_after None words files = files
 files_after (Some Info) words files = files
+files_after (Some Cat) words files = files
 
 unfoldable pub reply : List (List ℕ) → Files → SourceState → Reply
 reply words files input = record {
@@ -47,6 +50,9 @@ IsListed (status.Absent file) = Unit {0}
 IsListed status.NotNtfs = Unit {0}
 IsListed (status.BadGeometry field value) = Unit {0}
 IsListed (status.ImageShort len need) = Unit {0}
+IsListed (status.Damaged rule number) = Unit {0}
+IsListed (status.NotFound what) = Unit {0}
+IsListed (status.NotPlain flags) = Unit {0}
 IsListed status.ReadFault = Unit {0}
 IsListed status.WriteFault = Unit {0}
 IsListed status.NoMemory = Unit {0}
@@ -61,3 +67,4 @@ pub record PutsMessage (line : List ℕ) (old new : SinkState) (before after : S
 abbrev pub ShowsOnly : Option Tool → Type 0 → Type 0
 ShowsOnly None unchanged = unchanged
 ShowsOnly (Some Info) unchanged = unchanged
+ShowsOnly (Some Cat) unchanged = unchanged

@@ -4,7 +4,7 @@ use Rattle.std.specs.List.{starts_with}
 use Rattle.std.specs.Str.{bytes_eq}
 use Rattle.std.specs.Prelude.{nat_eq}
 use Rattle.ntfsprogs.specs.declared.words.Tool.{Tool}
-use Rattle.ntfsprogs.specs.declared.words.Tool.TheVariants.{Info}
+use Rattle.ntfsprogs.specs.declared.words.Tool.TheVariants.{Info, Cat}
 
 -- the word at a place, counted from 0
 abbrev pub word_at : ℕ → List (List ℕ) → List ℕ
@@ -13,10 +13,11 @@ word_at i words = get_or words i []
 -- the name of a tool
 unfoldable pub tool_name : Tool → List ℕ
 tool_name Info = codes "ntfsinfo"
+tool_name Cat = codes "ntfscat"
 
 -- the tool that a word names
 unfoldable pub tool_named : List ℕ → Option Tool
-tool_named word = if bytes_eq word (tool_name Info) then Some Info else None
+tool_named word = if bytes_eq word (tool_name Info) then Some Info else (if bytes_eq word (tool_name Cat) then Some Cat else None)
 
 -- the tool of a command line
 abbrev pub tool_of : List (List ℕ) → Option Tool
@@ -31,3 +32,8 @@ is_option word = starts_with nat_eq word (codes "-")
 unfoldable pub info_image : List (List ℕ) → Option (List ℕ)
 info_image words =
     if length words == 3 && (bytes_eq (word_at 1 words) (codes "-m") && not (is_option (word_at 2 words))) then Some (word_at 2 words) else None
+
+-- ntfscat takes exactly its own name, `-i`, a number and the name of an image that is no option
+unfoldable pub cat_image : List (List ℕ) → Option (List ℕ)
+cat_image words =
+    if length words == 4 && (bytes_eq (word_at 1 words) (codes "-i") && not (is_option (word_at 3 words))) then Some (word_at 3 words) else None

@@ -2,8 +2,10 @@
 #![tactic(auto)]
 
 mod arguments;
+mod cat;
 mod info;
 mod message;
+mod number;
 mod run;
 mod status;
 #[cfg(test)]

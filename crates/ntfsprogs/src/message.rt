@@ -304,6 +304,7 @@ fn name_of<'a>(tool: Option<Tool>, _file: Named, words: &'a [String]) -> &'a [u8
     match tool {
         None => b"",
         Some(Tool::Info) => word_at(words, 2),
+        Some(Tool::Cat) => word_at(words, 3),
     }
 }
 

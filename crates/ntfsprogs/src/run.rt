@@ -2,11 +2,13 @@
 ghost use Rattle.std.specs.Prelude.{◌≡◌, ◌⊎◌, [], IsTrue, map, string_bytes, true};
 ghost use Rattle.ntfs_base.specs.Causes.{HaveNotFallen, Rose};
 ghost use Rattle.ntfs_base.specs.Stream.{after_put};
+ghost use Rattle.ntfsprogs.specs.Cat.{IfCat, IfDone, PutsStream};
 ghost use Rattle.ntfsprogs.specs.Message.{message_of};
 ghost use Rattle.ntfsprogs.specs.Outcome.{Answers, FaultCause, IsSettled, IsWhole, PutsFront, SinkHasNotFallen};
 ghost use Rattle.ntfsprogs.specs.Reply.{IsListed, PutsMessage, ShowsOnly, reply, tool_outcome};
 ghost use Rattle.ntfsprogs.specs.Words.{tool_of};
 
+use crate::cat::cat;
 use crate::info::info;
 use crate::message::put_message;
 use crate::status::Status;
@@ -45,6 +47,10 @@ pub fn run<S: Shelf, I: Source, O: Sink, E: Sink>(
     ensures front { let expected = reply (map string_bytes words.now) (S.seen shelf.old).files (I.seen input.old) in
         IsTrue (S.seen shelf.old).is_told → PutsFront expected.output (O.seen out.old) (O.seen out.new) }
 
+    // Where ntfscat has done its work, it has put exactly the bytes of the record's stream.
+    ensures stream { let tool = tool_of (map string_bytes words.now) in
+        IsTrue (S.seen shelf.old).is_told → IfCat tool (IfDone result (PutsStream (map string_bytes words.now) (S.seen shelf.old).files (O.seen out.old) (O.seen out.new))) }
+
     // Where the work was done, the output stands flushed.
     ensures flushed { IsWhole result (O.is_flushed out.new ≡ true) }
 
@@ -61,13 +67,13 @@ pub fn run<S: Shelf, I: Source, O: Sink, E: Sink>(
     ensures out_faults { SinkHasNotFallen (O.faults out.old) (O.faults out.new) }
     ensures input { I.seen input.new ≡ I.seen input.old }
 {
-    let status = answer(words, shelf, out);
+    let status = answer(alloc, words, shelf, out);
     let _ = put_message(words, &status, err);
     status
 }
 
 /// What the tool that the first word names answers.
-fn answer<S: Shelf, O: Sink>(words: &[String], shelf: &mut S, out: &mut O) -> Status
+fn answer<S: Shelf, O: Sink>(alloc: Global, words: &[String], shelf: &mut S, out: &mut O) -> Status
     requires { (S.seen shelf.old).attached ≡ [] }
     ensures answers { IsTrue (S.seen shelf.old).is_told → Answers (tool_outcome (tool_of (map string_bytes words.now)) (map string_bytes words.now) (S.seen shelf.old).files) result (O.seen out.old) (O.seen out.new) }
     ensures flushed { IsWhole result (O.is_flushed out.new ≡ true) }
@@ -82,5 +88,6 @@ fn answer<S: Shelf, O: Sink>(words: &[String], shelf: &mut S, out: &mut O) -> St
             kind: UsageKind::Tool,
         },
         Some(Tool::Info) => info(words, shelf, out),
+        Some(Tool::Cat) => cat(alloc, words, shelf, out),
     }
 }

@@ -1,6 +1,6 @@
 use ntfs_base::{Lack, Missing, Named, Rule, ShelfFault, UsageKind};
 use ntfs_boot::ImageFault;
-use ntfs_show::ShowFault;
+use ntfs_show::{CatFault, ShowFault};
 
 /// How a command ended.
 #[derive(Clone, Copy, Debug, PartialEq, Eq)]
@@ -111,6 +111,27 @@ impl From<ShowFault> for Status {
             ShowFault::ReadFault => Status::ReadFault,
             ShowFault::WriteFault => Status::WriteFault,
             ShowFault::NoMemory => Status::NoMemory,
+        }
+    }
+}
+
+impl From<CatFault> for Status {
+    ghost use Rattle.std.specs.Prelude.{◌≡◌};
+    ghost use Rattle.ntfsprogs.specs.Cat.{cat_status};
+
+    ghost from_gives = { λ fault status. status ≡ cat_status fault };
+
+    fn from(fault: CatFault) -> Status {
+        match fault {
+            CatFault::NotNtfs => Status::NotNtfs,
+            CatFault::BadGeometry { field, value } => Status::BadGeometry { field, value },
+            CatFault::ImageShort { len, need } => Status::ImageShort { len, need },
+            CatFault::NotFound { what } => Status::NotFound { what },
+            CatFault::NotPlain { flags } => Status::NotPlain { flags },
+            CatFault::Damaged { rule, number } => Status::Damaged { rule, number },
+            CatFault::ReadFault => Status::ReadFault,
+            CatFault::WriteFault => Status::WriteFault,
+            CatFault::NoMemory => Status::NoMemory,
         }
     }
 }

@@ -2,6 +2,9 @@
 ghost use Rattle.std.specs.Prelude.{◌≡◌, ◌≤◌, [], length, vec_len, IfOk};
 ghost use Rattle.ntfs_base.specs.MemShelf.{seen_shelf};
 
+mod cat;
+mod volume;
+
 use crate::message::put_message;
 use crate::run::run;
 use crate::status::Status;

@@ -1,11 +1,12 @@
-ghost use Rattle.std.specs.Prelude.{◌≡◌, ◌≤◌, length, map, string_bytes};
+ghost use Rattle.std.specs.Prelude.{◌≡◌, ◌≤◌, length, map, string_bytes, IfSome};
 ghost use Rattle.std.specs.Option.{option_map};
-ghost use Rattle.ntfsprogs.specs.Words.{info_image, is_option, tool_name, tool_named, tool_of};
+ghost use Rattle.ntfsprogs.specs.Words.{cat_image, info_image, is_option, tool_name, tool_named, tool_of, word_at};
 
 /// The tools, by the first word of a command line.
 #[derive(Clone, Copy, Debug, PartialEq, Eq)]
 pub enum Tool {
     Info,
+    Cat,
 }
 
 /// The tool that the first word names.
@@ -24,6 +25,8 @@ fn tool_named(word: &str) -> Option<Tool>
 {
     if word == "ntfsinfo" {
         Some(Tool::Info)
+    } else if word == "ntfscat" {
+        Some(Tool::Cat)
     } else {
         None
     }
@@ -37,6 +40,7 @@ pub fn tool_name(tool: Tool) -> &'static str
 {
     match tool {
         Tool::Info => "ntfsinfo",
+        Tool::Cat => "ntfscat",
     }
 }
 
@@ -47,6 +51,20 @@ pub fn info_image(words: &[String]) -> Option<&str>
 {
     if words.len() == 3 && words[1].as_str() == "-m" && !is_option(words[2].as_str()) {
         Some(words[2].as_str())
+    } else {
+        None
+    }
+}
+
+/// The number and the image that a command line of `ntfscat` names, where it is the tool's name, `-i`, the number's word
+/// and a name that is no option.
+#[tactic(auto, unfolding(crate::specs::Words::cat_image))]
+pub fn cat_image(words: &[String]) -> Option<(&str, &str)>
+    ensures image { option_map (λ pair. pair.1.now) result ≡ cat_image (map string_bytes words.entry.now) }
+    ensures spelled { IfSome result (λ pair. pair.0.now ≡ word_at 2 (map string_bytes words.entry.now)) }
+{
+    if words.len() == 4 && words[1].as_str() == "-i" && !is_option(words[3].as_str()) {
+        Some((words[2].as_str(), words[3].as_str()))
     } else {
         None
     }

@@ -1,6 +1,7 @@
-use Rattle.std.proofs.Common.{ap, ◌∙◌}
+use Rattle.std.proofs.Common.{ap, refl, ◌∙◌}
 use Rattle.ntfs_base.specs.Shelf.{after_release, has_name}
 use Rattle.ntfs_base.proofs.AttachLemmas.{has_name-attached, after_release-attached}
+use Rattle.ntfsprogs.specs.Info.{file_outcome}
 use Rattle.ntfsprogs.proofs.OutcomeLemmas.{answers_attach}
 use Rattle.ntfsprogs.proofs.info.info_of.Goals as goal
 
@@ -11,7 +12,7 @@ release-requires g c =
     ∙ has_name-attached c.args.name.now (g.S.Shelf.seen c.args.shelf.now) (g.S.File.Image.seen c.in-Ok.file) c.in-Ok.ensures.file.bears
 
 pub returns-in-Err-clause-answers : goal.returns-in-Err-clause-answers
-returns-in-Err-clause-answers g c told = rw c.attach_status.ensures (answers_attach c.in-Err.fault _ _ _ _ _ told c.in-Err.ensures.refusal)
+returns-in-Err-clause-answers g c told = rw c.attach_status.ensures (answers_attach file_outcome refl c.in-Err.fault _ _ _ _ _ told c.in-Err.ensures.refusal)
 
 pub returns-in-Ok-clause-seen : goal.returns-in-Ok-clause-seen
 returns-in-Ok-clause-seen g c =

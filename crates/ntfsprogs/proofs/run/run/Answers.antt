@@ -3,6 +3,7 @@ use Rattle.ntfsprogs.specs.Message.{message_of}
 use Rattle.ntfsprogs.specs.Reply.{reply}
 use Rattle.ntfsprogs.specs.Words.{tool_of}
 use Rattle.ntfsprogs.proofs.OutcomeLemmas.{files_shown}
+use Rattle.ntfsprogs.proofs.CatLemmas.{puts_stream}
 use Rattle.ntfsprogs.proofs.run.run.Goals as goal
 
 pub returns-clause-status : goal.returns-clause-status
@@ -24,3 +25,6 @@ returns-clause-files g c told settled = ap (λ shelf. shelf.files) c.answer-stat
 pub returns-clause-front : goal.returns-clause-front
 unfolding reply
 returns-clause-front g c told = (c.answer-status.ensures.answers told).front
+
+pub returns-clause-stream : goal.returns-clause-stream
+returns-clause-stream g c told = puts_stream (tool_of (map string_bytes c.args.words.now)) (map string_bytes c.args.words.now) _ c.answer-status.result _ _ (c.answer-status.ensures.answers told)

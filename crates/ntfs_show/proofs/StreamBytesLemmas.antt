@@ -1,0 +1,124 @@
+-- The bytes of a stream, cell by cell.
+use Rattle.std.proofs.Common.{◌≡◌, ◌≤◌, ◌<◌, ◌+◌, ◌-◌, ◌*◌, ◌&&◌, ℕ, List, [], ◌∷◌, ◌++◌, length, take, min, refl, sym, ap, ◌∙◌, subst, arith, slice_range, append_assoc, Bool, true, Option, Some, None, nat_lt}
+use Rattle.std.specs.Prelude.{replicate}
+use Rattle.std.specs.Option.{option_map}
+use Rattle.std.proofs.lemmas.List.{length-replicate, length-take-le, take_all, take_min, take-replicate, replicate-append-replicate, take-append-le, append-nil}
+use Rattle.ntfs_base.specs.Bytes.{cluster_at}
+use Rattle.std.proofs.Common.{◌⊎◌, inl, inr, nat_le}
+use Rattle.std.proofs.Math.Seq.{take-append-add}
+use Rattle.std.proofs.lemmas.Bool.{cases_lt, leb-true, ltb-true}
+use Rattle.ntfs_show.specs.Cells.{are_cells, is_cell, map_cells}
+use Rattle.std.proofs.Common.{Bor, Err}
+use Rattle.ntfs_base.specs.Stream.{SinkState, Put, after_put}
+use Rattle.ntfs_boot.specs.declared.geometry.Geometry.{Geometry}
+use Rattle.ntfs_runs.specs.declared.run.Run.{Run}
+use Rattle.ntfs_runs.specs.Clusters.{vcns}
+use Rattle.ntfs_show.specs.Cat.{filled}
+use Rattle.ntfs_show.specs.Gather.{have_room}
+use Rattle.ntfs_show.specs.Reading.{IsReadable, shown_stream}
+use Rattle.ntfs_show.specs.declared.extents.Gathered.{Gathered}
+use Rattle.ntfs_show.specs.declared.extents.Gathered.TheVariants.{Value, Runs}
+use Rattle.ntfs_show.proofs.TableLemmas.{clusters-long}
+use Rattle.ntfs_show.proofs.TableLemmas.{and-left, and-right}
+use Rattle.ntfs_show.specs.StreamBytes.{cell_bytes, cells_bytes, pieces, runs_bytes, shown_cell, stream_bytes}
+use Rattle.ntfs_show.proofs.ReadLemmas.{read-from}
+
+-- a cluster that was read, and then cleared from the initialised size on
+pub cleared : (content buffer after : List ℕ) (c lcn valid at k from : ℕ) → k ≡ c → lcn * c + c ≤ length content → at ≡ lcn * c → length buffer ≡ c → from ≡ min valid k
+    → buffer ≡ slice_range content at (at + c) → after ≡ take from buffer ++ replicate (length buffer - from) 0 → after ≡ shown_cell c valid (Some (cluster_at content c lcn))
+unfolding cluster_at
+cleared content buffer after c lcn valid at k from same within place long least read is =
+    let bytes = read-from content buffer at (lcn * c) c c read place refl in
+    let front : take from buffer ≡ take valid buffer = ap (λ n. take n buffer) (least ∙ ap (min valid) (same ∙ sym long)) ∙ take_min valid buffer in
+    let rest : length buffer - from ≡ c - valid = omega (arith, long, least, same) in
+    is ∙ ap (λ xs. xs ++ replicate (length buffer - from) 0) front ∙ ap (λ n. take valid buffer ++ replicate n 0) rest ∙ ap (λ xs. take valid xs ++ replicate (c - valid) 0) bytes
+
+cluster_end : (k n c : ℕ) → k < n → k * c + c ≤ n * c
+cluster_end k n c lt = grind arith
+
+pub cluster-within : (k n c size : ℕ) → k < n → n * c ≤ size → k * c + c ≤ size
+cluster-within k n c size lt held = let end = cluster_end k n c lt in omega (arith, end, held)
+
+-- ---- the pieces of all cells are the stream's bytes
+
+whole_cell : (c s v : ℕ) (b : List ℕ) → length b ≡ c → c ≤ v → v ≤ s → take (min s c) (take v b ++ replicate (c - v) 0) ≡ b
+whole_cell c s v b long large within =
+    let least : min s c ≡ c = omega arith in
+    let none : c - v ≡ 0 = omega arith in
+    ap (λ n. take n (take v b ++ replicate (c - v) 0)) least
+    ∙ ap (λ n. take c (take v b ++ replicate n 0)) none
+    ∙ ap (take c) (append-nil (take v b) ∙ take_all v b (omega arith))
+    ∙ take_all c b (omega arith)
+
+part_cell : (c s v : ℕ) (b : List ℕ) → length b ≡ c → v < c → v ≤ s → take (min s c) (take v b ++ replicate (c - v) 0) ≡ take v b ++ replicate (min s c - v) 0
+part_cell c s v b long small within =
+    let front : length (take v b) ≡ v = length-take-le v b (omega arith) in
+    let size : min s c ≡ length (take v b) + (min s c - v) = omega arith in
+    ap (λ n. take n (take v b ++ replicate (c - v) 0)) size
+    ∙ take-append-add (take v b) (replicate (c - v) 0) (min s c - v)
+    ∙ ap (λ xs. take v b ++ xs) (take-replicate (min s c - v) (c - v) 0 (omega arith))
+
+cell-law : (c s v : ℕ) (b rest : List ℕ) → length b ≡ c → v ≤ s → (v < c) ⊎ (c ≤ v)
+    → take (min s c) (take v b ++ replicate (c - v) 0) ++ (take (v - c) rest ++ replicate ((s - c) - (v - c)) 0) ≡ take v (b ++ rest) ++ replicate (s - v) 0
+cell-law c s v b rest long within (inr large) =
+    let place : v ≡ length b + (v - c) = omega arith in
+    let left : (s - c) - (v - c) ≡ s - v = omega arith in
+    ap (λ xs. xs ++ (take (v - c) rest ++ replicate ((s - c) - (v - c)) 0)) (whole_cell c s v b long large within)
+    ∙ sym (append_assoc b (take (v - c) rest) (replicate ((s - c) - (v - c)) 0))
+    ∙ ap (λ n. (b ++ take (v - c) rest) ++ replicate n 0) left
+    ∙ ap (λ xs. xs ++ replicate (s - v) 0) (sym (ap (λ n. take n (b ++ rest)) place ∙ take-append-add b rest (v - c)))
+cell-law c s v b rest long within (inl small) =
+    let none : v - c ≡ 0 = omega arith in
+    let left : (s - c) - (v - c) ≡ s - c = omega arith in
+    let all : (min s c - v) + (s - c) ≡ s - v = omega arith in
+    ap (λ xs. xs ++ (take (v - c) rest ++ replicate ((s - c) - (v - c)) 0)) (part_cell c s v b long small within)
+    ∙ ap (λ n. (take v b ++ replicate (min s c - v) 0) ++ (take n rest ++ replicate ((s - c) - (v - c)) 0)) none
+    ∙ ap (λ n. (take v b ++ replicate (min s c - v) 0) ++ replicate n 0) left
+    ∙ append_assoc (take v b) (replicate (min s c - v) 0) (replicate (s - c) 0)
+    ∙ ap (λ xs. take v b ++ xs) (replicate-append-replicate (min s c - v) (s - c) 0 ∙ ap (λ n. replicate n 0) all)
+    ∙ ap (λ xs. xs ++ replicate (s - v) 0) (sym (take-append-le v b rest (omega arith)))
+
+cell_long : (f : ℕ → List ℕ) (c n : ℕ) (cell : Option ℕ) (rest : Bool) → ((k : ℕ) → k < n → length (f k) ≡ c) → (is_cell true n cell && rest) ≡ true → length (cell_bytes c (option_map f cell)) ≡ c
+cell_long f c n None rest long is = length-replicate c 0
+cell_long f c n (Some k) rest long is = long k (ltb-true k n (and-left (nat_lt k n) rest is))
+
+no_bytes : (v s : ℕ) → v ≤ s → s ≤ 0 → ◌≡◌ {A = List ℕ} [] (take v [] ++ replicate (s - v) 0)
+no_bytes v s within none =
+    let valid : v ≡ 0 = omega arith in
+    let left : s - v ≡ 0 = omega arith in
+    let none : List ℕ = [] in
+    sym (ap (λ n. take n none ++ replicate (s - v) 0) valid ∙ ap (λ n. replicate n 0) left)
+
+pub pieces-whole : (f : ℕ → List ℕ) (c n s v : ℕ) (cells : List (Option ℕ)) → ((k : ℕ) → k < n → length (f k) ≡ c) → are_cells true n cells ≡ true → v ≤ s → s ≤ length cells * c
+    → pieces c s v (map_cells f cells) ≡ take v (cells_bytes c (map_cells f cells)) ++ replicate (s - v) 0
+unfolding pieces cells_bytes are_cells
+pieces-whole f c n s v [] long are within room = no_bytes v s within (omega (arith, room))
+pieces-whole f c n s v (cell ∷ cells) long are within room =
+    ap (λ bytes. take (min s c) (shown_cell c v (option_map f cell)) ++ bytes)
+    (pieces-whole f c n (s - c) (v - c) cells long (and-right (is_cell true n cell) (are_cells true n cells) are) (omega arith) (omega (arith, room)))
+    ∙ cell-law c s v (cell_bytes c (option_map f cell)) (cells_bytes c (map_cells f cells)) (cell_long f c n cell (are_cells true n cells) long are) within (cases_lt v c)
+
+pub runs-whole : (f : ℕ → List ℕ) (c n s v : ℕ) (cells : List (Option ℕ)) → ((k : ℕ) → k < n → length (f k) ≡ c) → are_cells true n cells ≡ true → have_room c (length cells) s v ≡ true
+    → pieces c s v (map_cells f cells) ≡ runs_bytes c s v (map_cells f cells)
+unfolding runs_bytes
+runs-whole f c n s v cells long are room =
+    pieces-whole f c n s v cells long are (leb-true v s (and-right (nat_le s (length cells * c)) (nat_le v s) room)) (leb-true s (length cells * c) (and-left (nat_le s (length cells * c)) (nat_le v s) room))
+
+pub room-valid : (c vcns s v : ℕ) → have_room c vcns s v ≡ true → v ≤ s
+room-valid c vcns s v room = leb-true v s (and-right (nat_le s (vcns * c)) (nat_le v s) room)
+
+-- the bytes of a stream that was gathered
+pub value-bytes : (g : Geometry) (content : List ℕ) (stream : Gathered) (flags : ℕ) (value : Bor (List ℕ)) → stream ≡ Value flags value → value.now ≡ stream_bytes g.cluster (filled g content (shown_stream stream))
+unfolding stream_bytes
+value-bytes g content stream flags value is = ap (λ (s : Gathered). stream_bytes g.cluster (filled g content (shown_stream s))) (sym is)
+
+pub runs-bytes : (g : Geometry) (content : List ℕ) (stream : Gathered) (flags size valid : ℕ) (runs : List Run) → stream ≡ Runs flags size valid runs → IsReadable g stream → g.clusters * g.cluster ≤ length content
+    → pieces g.cluster size valid (map_cells (cluster_at content g.cluster) (vcns runs)) ≡ stream_bytes g.cluster (filled g content (shown_stream stream))
+unfolding stream_bytes
+runs-bytes g content stream flags size valid runs is readable held =
+    let can : IsReadable g (Runs flags size valid runs) = subst (IsReadable g) is readable in
+    runs-whole (cluster_at content g.cluster) g.cluster g.clusters size valid (vcns runs) (clusters-long content g.cluster g.clusters held) can.0 can.1
+    ∙ ap (λ (s : Gathered). stream_bytes g.cluster (filled g content (shown_stream s))) (sym is)
+
+pub put-as : {T U E D : Type 0} (bytes all : List ℕ) (old new : SinkState) (e : E) (d : D) → bytes ≡ all → Put {T = T} bytes old (Err e) new → Put {T = U} all old (Err d) new
+put-as bytes all old new e d same is = record { whole = tt; part = subst (λ (xs : List ℕ). (k : ℕ) × (k ≤ length xs) × (new ≡ after_put (take k xs) old)) same is.part }

@@ -1,0 +1,10 @@
+use Rattle.std.proofs.Common.{sym}
+use Rattle.ntfs_base.specs.declared.meaning.UsageKind.TheVariants as usage
+use Rattle.ntfsprogs.specs.Cat.{cat_line_outcome}
+use Rattle.ntfsprogs.specs.declared.status.Status.TheVariants as status
+use Rattle.ntfsprogs.proofs.OutcomeLemmas.{answers_refused}
+use Rattle.ntfsprogs.proofs.cat.cat.Goals as goal
+
+pub returns-in-None-clause-answers : goal.returns-in-None-clause-answers
+unfolding cat_line_outcome
+returns-in-None-clause-answers g c told = rw (sym c.in-None.ensures.image) (answers_refused (status.Usage usage.Line) _)
