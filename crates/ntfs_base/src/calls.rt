@@ -7,7 +7,7 @@ pub enum Leaves {
     Before,
     /// What was asked, though it fails.
     Asked,
-    /// The first so many bytes of those to be put; of another call, all as it was before.
+    /// The first so many bytes of those to be put or appended; of another call, all as it was before.
     Front { bytes: u64 },
 }
 
