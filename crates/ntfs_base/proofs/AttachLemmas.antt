@@ -6,7 +6,7 @@ use Rattle.std.specs.FinMap.{get, insert, get-insert, same_map, slice_cmp-IsAnti
 use Rattle.std.specs.Str.{bytes_eq}
 use Rattle.ntfs_base.specs.Causes.{Rose}
 use Rattle.ntfs_base.specs.Image.{ImageState}
-use Rattle.ntfs_base.specs.Shelf.{Files, ShelfState, file_of, has_name, without, after_attach, after_release, added_count}
+use Rattle.ntfs_base.specs.Shelf.{Files, ShelfState, file_of, has_name, without, after_attach, after_create, after_release, added_count}
 use Rattle.ntfs_base.proofs.ShelfLemmas.{same_name, name_same}
 
 kept_by_test : (b : Bool) (o here : Option (List ℕ)) → (b ≡ true → here ≡ o) → cond b o here ≡ here
@@ -37,6 +37,11 @@ after_release-attached name shelf file named is =
 pub has_name-attached : (name : List ℕ) (shelf : ShelfState) (file : ImageState) → file.name ≡ name → has_name file.name (after_attach name shelf).attached ≡ true
 unfolding after_attach
 has_name-attached name shelf file named = ap (λ b. b || has_name file.name shelf.attached) (name_same file.name name named)
+
+-- and so is that of a file that was made
+pub has_name-created : (name : List ℕ) (shelf : ShelfState) (file : ImageState) → file.name ≡ name → has_name file.name (after_create name shelf).attached ≡ true
+unfolding after_create
+has_name-created name shelf file named = ap (λ b. b || has_name file.name shelf.attached) (name_same file.name name named)
 
 -- a fault of the file is one of the shelf
 pub Rose-added : (before old new more : ℕ) → before ≤ old → new ≡ added_count old more → Rose 0 more → Rose before new

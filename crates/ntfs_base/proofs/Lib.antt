@@ -1,6 +1,7 @@
 pub mod BytesLemmas
 pub mod WritesLemmas
-pub mod MemoryLemmas
+pub mod GrowthLemmas
 pub mod StreamLemmas
+pub mod MemoryLemmas
 pub mod ShelfLemmas
 pub mod AttachLemmas

@@ -1,5 +1,5 @@
--- What a shelf in memory has after an attach and a release.
-use Rattle.std.proofs.Common.{Result, Ok, Err, IfOk, ◌≡◌, ◌<◌, ◌+◌, ◌&&◌, ◌||◌, ℕ, suc, List, [], ◌∷◌, ◌++◌, length, get_or, set, map, take, drop, append_assoc, refl, sym, ap, subst, ◌∙◌, inl, inr, ◌⊎◌, arith, Bool, true, false, Option, Some, None, IsSome, is_some, String, string_bytes, add-one, if◌then◌else◌, cond}
+-- What a shelf in memory has after an attach, a create and a release.
+use Rattle.std.proofs.Common.{Result, Ok, Err, IfOk, OnOk, OnErr, ◌≡◌, ◌<◌, ◌+◌, ◌&&◌, ◌||◌, ℕ, suc, List, [], ◌∷◌, ◌++◌, length, get_or, set, map, take, drop, append_assoc, refl, sym, ap, subst, ◌∙◌, inl, inr, ◌⊎◌, arith, Bool, true, false, Option, Some, None, IsSome, is_some, String, string_bytes, add-one, if◌then◌else◌, cond}
 use Rattle.std.proofs.lemmas.Slice.Eq.{bytes_eq-Decides}
 use Rattle.std.proofs.lemmas.Cmp.{nat_list_cmp_total}
 use Rattle.std.specs.Option.{option_map, option_and_then}
@@ -12,9 +12,9 @@ use Rattle.std.specs.Ordering.{nat_cmp}
 use Rattle.std.specs.Cmp.Lexicographic.{slice_cmp, texts_ties}
 use Rattle.std.specs.FinMap.{get, insert, get-empty, get-insert, get-remove, same_map, slice_cmp-IsAntisymmetric, nat_cmp-IsAntisymmetric}
 use Rattle.std.specs.Str.{bytes_eq}
-use Rattle.ntfs_base.specs.Shelf.{Files, has_name, without, after_attach, after_release}
+use Rattle.ntfs_base.specs.Shelf.{Files, has_name, without, after_attach, after_create, after_release}
 use Rattle.ntfs_base.specs.Image.{ImageState}
-use Rattle.ntfs_base.specs.MemShelf.{place_of, index_of, bytes_of, placed, files_of, all_placed, IsFresh, KeepsOthers, KeepsPlaces, KeepsFiles, KeepsCalls, made_by, failing_by, seen_shelf}
+use Rattle.ntfs_base.specs.MemShelf.{place_of, index_of, bytes_of, placed, files_of, all_placed, IsFresh, KeepsOthers, KeepsPlaces, KeepsFiles, KeepsCalls, CreatesFile, made_by, failing_by, seen_shelf}
 use Rattle.ntfs_base.specs.declared.memory.place.Place.{Place}
 
 pub same_name : (a b : List ℕ) → bytes_eq a b ≡ true → a ≡ b
@@ -274,6 +274,38 @@ pub IfOk-then : {T E : Type 0} (P Q : T → Type 0) (r : Result T E) → ((x : T
 IfOk-then P Q (Ok x) step is = step x is
 IfOk-then P Q (Err e) step is = tt
 
+-- what an `Ok` or an `Err` says, where it follows from what it said
+pub OnOk-then : {T E : Type 0} (P Q : Type 0) (r : Result T E) → (P → Q) → OnOk r P → OnOk r Q
+OnOk-then P Q (Ok x) step is = step is
+OnOk-then P Q (Err e) step is = tt
+
+pub OnErr-then : {T E : Type 0} (P Q : Type 0) (r : Result T E) → (P → Q) → OnErr r P → OnErr r Q
+OnErr-then P Q (Ok x) step is = tt
+OnErr-then P Q (Err e) step is = step is
+
+-- a place that was replaced by one with an empty file, or, after a refusal, with the same
+pub created_by_set : {T E : Type 0} (name : List ℕ) (ps ps' : List Place) (p : Place) (r : Result T E) → string_bytes p.name ≡ name → ((q : List ℕ) → place_of q ps' ≡ cond (bytes_eq q (string_bytes p.name)) (Some p) (place_of q ps))
+    → OnOk r (bytes_of p ≡ Some []) → OnErr r (bytes_of p ≡ option_and_then bytes_of (place_of name ps)) → CreatesFile name ps r ps'
+created_by_set name ps ps' p r named is created refused = record {
+  created = OnOk-then _ _ r (λ empty. files_of-insert ps ps' p [] is empty ∙ ap (λ n. insert (files_of ps) n []) named) created;
+  refused = OnErr-then _ _ r (λ same. files_of-kept ps ps' p is (same ∙ ap (λ n. option_and_then bytes_of (place_of n ps)) (sym named))) refused;
+  others = others_kept ps ps' p name named is;
+  places = places_kept ps ps' p is;
+}
+
+-- a place that was there or was made for the name before
+pub created_then : {T E : Type 0} (name : List ℕ) (a b c : List Place) (r : Result T E) → KeepsFiles name a b → CreatesFile name b r c → CreatesFile name a r c
+created_then name a b c r one two = record {
+  created = OnOk-then _ _ r (λ is. is ∙ ap (λ files. insert files name []) one.files) two.created;
+  refused = OnErr-then _ _ r (λ is. is ∙ one.files) two.refused;
+  others = λ q other. two.others q other ∙ one.others q other;
+  places = λ q is. two.places q (one.places q is);
+}
+
+-- where no place could be made
+pub created_none : {T E : Type 0} (name : List ℕ) (a b : List Place) (e : E) → KeepsFiles name a b → CreatesFile {T = T} name a (Err e) b
+created_none name a b e kept = record { created = tt; refused = kept.files; others = kept.others; places = kept.places }
+
 -- the first of a name goes
 pub without-here : (name : List ℕ) (xs : List (List ℕ)) (i : ℕ) → i < length xs → bytes_eq name (get_or xs i []) ≡ true → without name (drop i xs) ≡ drop (suc i) xs
 without-here name xs i within is = rw (drop-cons xs i [], is) refl
@@ -315,6 +347,14 @@ pub seen-attached : (name : List ℕ) (ps ps' : List Place) (names names' : List
     → seen_shelf ps' names' ≡ after_attach name (seen_shelf ps names)
 unfolding after_attach
 seen-attached name ps ps' names names' text files is named =
+    let attached : map string_bytes names' ≡ name ∷ map string_bytes names = ap (map string_bytes) is ∙ ap (λ n. n ∷ map string_bytes names) named in
+    λ i. record { is_told = true; files = files i; attached = attached i }
+
+-- after an empty one was made
+pub seen-created : (name : List ℕ) (ps ps' : List Place) (names names' : List (String Global)) (text : String Global) → files_of ps' ≡ insert (files_of ps) name [] → names' ≡ text ∷ names → string_bytes text ≡ name
+    → seen_shelf ps' names' ≡ after_create name (seen_shelf ps names)
+unfolding after_create
+seen-created name ps ps' names names' text files is named =
     let attached : map string_bytes names' ≡ name ∷ map string_bytes names = ap (map string_bytes) is ∙ ap (λ n. n ∷ map string_bytes names) named in
     λ i. record { is_told = true; files = files i; attached = attached i }
 

@@ -29,14 +29,14 @@ pub record AsPlanned {T E : Type 0} (old : Calls) (result : Result T E) (new : C
 abbrev pub count_after : {T E : Type 0} → ℕ → Result T E → ℕ
 count_after old result = if is_err result then one_more old else old
 
--- what a failing write leaves of these two: what was before, or what was asked
+-- what a failing write or `set_len` leaves of these two: what was before, or what was asked
 abbrev pub left_by : {X : Type 0} → Option Leaves → X → X → X
 left_by None before asked = before
 left_by (Some leaves.Before) before asked = before
 left_by (Some leaves.Asked) before asked = asked
 left_by (Some (leaves.Front n)) before asked = before
 
--- the bytes of a put that go: all, where it isn't to fail; else none, all, or a front of so many
+-- the bytes of a put or an append that go: all, where it isn't to fail; else none, all, or a front of so many
 abbrev pub front_by : Option Leaves → List ℕ → List ℕ
 front_by None bytes = bytes
 front_by (Some leaves.Before) bytes = []

@@ -51,3 +51,14 @@ pub record FlushCause {T E : Type 0} (old new : SinkFaults) (result : Result T E
   pub failures : old.failures ≤ new.failures
   pub wants : old.wants ≤ new.wants
   pub cause : OnErr result (Rose old.failures new.failures)
+
+-- why a file wasn't cut or didn't grow: the count of writes rose; want of memory is free
+abbrev pub GrowthFault : PutFault → Faults → Faults → Type 0
+GrowthFault put.Failed old new = Rose old.writes new.writes
+GrowthFault put.NoMemory old new = Unit {0}
+
+-- neither count fell, and a refusal has its cause
+pub record GrowthCause {T : Type 0} (old new : Faults) (result : Result T PutFault) : Type 0 where
+  pub reads : old.reads ≤ new.reads
+  pub writes : old.writes ≤ new.writes
+  pub cause : IfErr result (λ fault. GrowthFault fault old new)

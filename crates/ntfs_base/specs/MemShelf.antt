@@ -1,5 +1,5 @@
 -- A shelf in memory: places with a name each, of which the first of a name counts. The words are ours.
-use Rattle.std.specs.Prelude.{◌≡◌, ◌&&◌, ◌+◌, String, ℕ, Bool, true, false, List, [], ◌∷◌, map, Option, Some, None, is_some, Result, Ok, Err, if◌then◌else◌}
+use Rattle.std.specs.Prelude.{◌≡◌, ◌&&◌, ◌+◌, String, ℕ, Bool, true, false, List, [], ◌∷◌, map, Option, Some, None, is_some, OnOk, OnErr, Result, Ok, Err, if◌then◌else◌}
 use Rattle.std.specs.Option.{option_map}
 use Rattle.std.specs.Str.{bytes_eq}
 use Rattle.std.specs.String.{string_bytes}
@@ -67,6 +67,23 @@ AttachesAsPlanned old (Err fault.Failed) new = (is_some (next_failing_by old) �
 AttachesAsPlanned old (Err fault.Present) new = ⊥
 AttachesAsPlanned old (Err fault.NoMemory) new = failing_by new ≡ failing_by old
 
+-- a create fails exactly where the list says so, unless memory is wanting; it is a call under its name, and the file that it
+-- hands out gets that name's count and list
+abbrev pub CreatesAsPlanned : Option Place → Result MemFile ShelfFault → Option Place → Type 0
+CreatesAsPlanned old (Ok file) new =
+    (next_failing_by old ≡ None) × (file.inside.calls.made ≡ one_more (made_by old)) × (file.inside.calls.failing.items ≡ failing_by old)
+CreatesAsPlanned old (Err fault.Absent) new = ⊥
+CreatesAsPlanned old (Err fault.Present) new = (next_failing_by old ≡ None) × (made_by new ≡ one_more (made_by old)) × (failing_by new ≡ failing_by old)
+CreatesAsPlanned old (Err fault.Failed) new = (is_some (next_failing_by old) ≡ true) × (made_by new ≡ one_more (made_by old)) × (failing_by new ≡ failing_by old)
+CreatesAsPlanned old (Err fault.NoMemory) new = failing_by new ≡ failing_by old
+
+-- a file as it is made under a name: empty, and with no fault yet
+pub record IsEmptyFile (name : List ℕ) (file : MemFile) : Type 0 where
+  pub bears : string_bytes file.name ≡ name
+  pub empty : file.inside.bytes.items ≡ []
+  pub reads : file.inside.faults.reads ≡ 0
+  pub writes : file.inside.faults.writes ≡ 0
+
 -- a place of this name as it is made: without a file and without a call
 pub record IsFresh (name : List ℕ) (p : Place) : Type 0 where
   pub named : string_bytes p.name ≡ name
@@ -89,6 +106,14 @@ KeepsPlaces old new = (name : List ℕ) → is_some (place_of name old) ≡ true
 -- no file is another, the places of all other names stay, and none goes
 pub record KeepsFiles (name : List ℕ) (old new : List Place) : Type 0 where
   pub files : files_of new ≡ files_of old
+  pub others : KeepsOthers name old new
+  pub places : KeepsPlaces old new
+
+-- a file of this name is made, which is empty; after a refusal no file is another. The places of all other names stay, and
+-- none goes
+pub record CreatesFile {T E : Type 0} (name : List ℕ) (old : List Place) (result : Result T E) (new : List Place) : Type 0 where
+  pub created : OnOk result (files_of new ≡ files.insert (files_of old) name [])
+  pub refused : OnErr result (files_of new ≡ files_of old)
   pub others : KeepsOthers name old new
   pub places : KeepsPlaces old new
 

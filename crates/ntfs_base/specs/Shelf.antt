@@ -1,5 +1,5 @@
 -- What contracts see of a shelf of files: which files it has, and which are attached now. The words are ours.
-use Rattle.std.specs.Prelude.{◌≡◌, ◌||◌, false, ℕ, Bool, List, [], ◌∷◌, IsTrue, Option, Some, None, if◌then◌else◌, min, ◌+◌}
+use Rattle.std.specs.Prelude.{◌≡◌, ◌||◌, false, ℕ, Bool, List, [], ◌∷◌, IsTrue, Option, Some, None, IsSome, if◌then◌else◌, min, ◌+◌}
 use Rattle.std.specs.Ordering.{nat_cmp}
 use Rattle.std.specs.Cmp.Lexicographic.{slice_cmp}
 use Rattle.std.specs.Str.{bytes_eq}
@@ -40,6 +40,13 @@ without name (x ∷ xs) = if bytes_eq name x then xs else x ∷ without name xs
 unfoldable pub after_attach : List ℕ → ShelfState → ShelfState
 after_attach name shelf = record shelf { attached = name ∷ shelf.attached }
 
+-- the shelf after it has made an empty file under a name and handed it out
+unfoldable pub after_create : List ℕ → ShelfState → ShelfState
+after_create name shelf = record shelf {
+  files = if shelf.is_told then map.insert shelf.files name [] else shelf.files;
+  attached = name ∷ shelf.attached;
+}
+
 -- the shelf after it has taken a file back
 unfoldable pub after_release : ImageState → ShelfState → ShelfState
 after_release file shelf = record shelf {
@@ -67,3 +74,22 @@ AttachCause fault.Absent shelf asked old new = IsTrue shelf.is_told → file_of 
 AttachCause fault.Present shelf asked old new = ⊥
 AttachCause fault.Failed shelf asked old new = Rose old.reads new.reads
 AttachCause fault.NoMemory shelf asked old new = Unit {0}
+
+-- a file as it is made: under the name that was asked, over no other image, told as the shelf is, empty, and with no fault
+-- yet; where it had to be new, there was none of that name
+pub record IsCreated (shelf : ShelfState) (asked : List ℕ) (must_be_new : Bool) (file : ImageState) (faults : Faults) : Type 0 where
+  pub bears : file.name ≡ asked
+  pub alone : file.lower ≡ []
+  pub told : file.is_told ≡ shelf.is_told
+  pub empty : IsTrue shelf.is_told → file.content ≡ []
+  pub size : file.size ≡ 0
+  pub fresh : IsTrue must_be_new → IsTrue shelf.is_told → file_of shelf.files asked ≡ None
+  pub reads : faults.reads ≡ 0
+  pub writes : faults.writes ≡ 0
+
+-- why a file wasn't made: it had to be new and there is one of that name, or the count of writes rose; want of memory is free
+abbrev pub CreateCause : ShelfFault → ShelfState → List ℕ → Bool → Faults → Faults → Type 0
+CreateCause fault.Absent shelf asked must_be_new old new = ⊥
+CreateCause fault.Present shelf asked must_be_new old new = IsTrue must_be_new × (IsTrue shelf.is_told → IsSome (file_of shelf.files asked))
+CreateCause fault.Failed shelf asked must_be_new old new = Rose old.writes new.writes
+CreateCause fault.NoMemory shelf asked must_be_new old new = Unit {0}

@@ -7,7 +7,7 @@ pub enum Leaves {
     Before,
     /// What was asked, though it fails.
     Asked,
-    /// The first so many bytes of those to be put; of another call, all as it was before.
+    /// The first so many bytes of those to be put or appended; of another call, all as it was before.
     Front { bytes: u64 },
 }
 
@@ -63,10 +63,10 @@ impl Calls {
 }
 
 ghost use Rattle.std.specs.Prelude.{◌≡◌};
-ghost use Rattle.ntfs_base.specs.Calls.{failing_at, one_more as after_one_more};
+ghost use Rattle.ntfs_base.specs.Calls.{failing_at, front_by, one_more as after_one_more};
 
 /// One more; a count stops at its last value.
-pub(crate) fn one_more(count: u64) -> u64
+pub fn one_more(count: u64) -> u64
     ensures { result ≡ after_one_more count }
 {
     if count < u64::MAX { count + 1 } else { count }
@@ -81,4 +81,15 @@ fn leaves_at(failing: &[FailingCall], number: u64) -> Option<Leaves>
         }
     }
     None
+}
+
+/// The bytes that a put or an append takes, by what is planned for it.
+pub(crate) fn front(planned: Option<Leaves>, bytes: &[u8]) -> &[u8]
+    ensures { result.now ≡ front_by planned bytes.entry.now }
+{
+    match planned {
+        None | Some(Leaves::Asked) => bytes,
+        Some(Leaves::Before) => &bytes[..0],
+        Some(Leaves::Front { bytes: count }) => &bytes[..bytes.len().min(count as usize)],
+    }
 }

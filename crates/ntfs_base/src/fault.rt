@@ -4,7 +4,7 @@ use std::alloc::{AllocError, AllocFailed};
 #[derive(Clone, Copy, Debug, PartialEq, Eq)]
 pub struct Failed;
 
-/// Why a sink didn't take all bytes.
+/// Why a sink or a file didn't take all bytes, or a file wasn't cut or extended.
 #[derive(Clone, Copy, Debug, PartialEq, Eq)]
 pub enum PutFault {
     /// The outside failed; a front of the bytes may have been taken.

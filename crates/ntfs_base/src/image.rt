@@ -1,10 +1,11 @@
-ghost use Rattle.std.specs.Prelude.{◌≡◌, ◌+◌, ◌≤◌, List, [], ◌∷◌, length, slice_range, IsTrue, OnOk};
-ghost use Rattle.ntfs_base.specs.Causes.{HaveNotFallen, ReadCause, WriteCause};
+ghost use Rattle.std.specs.Prelude.{◌≡◌, ◌+◌, ◌≤◌, List, [], ◌∷◌, length, slice_range, IsTrue, OnOk, IfErr};
+ghost use Rattle.ntfs_base.specs.Causes.{HaveNotFallen, ReadCause, WriteCause, GrowthCause};
+ghost use Rattle.ntfs_base.specs.Growth.{SetLength, Appended, KeepsFile};
 ghost use Rattle.ntfs_base.specs.Image.{ImageState, HasToldSize};
 ghost use Rattle.ntfs_base.specs.Writes.{Wrote};
 ghost use Rattle.ntfs_base.specs.declared.fault.Faults.{Faults as Counts};
 
-use crate::fault::Failed;
+use crate::fault::{Failed, PutFault};
 
 /// A list of bytes of a fixed length outside the program, as a volume's image is.
 pub trait Image {
@@ -42,4 +43,17 @@ pub trait Image {
 }
 
 /// A file of a shelf: an image that may be cut or made longer.
-pub trait HostFile: Image {}
+pub trait HostFile: Image {
+    /// Sets the length: cuts the file, or extends it with zeros. After `Failed` the file is as before or as asked, after
+    /// `NoMemory` as before.
+    fn set_len(&mut self, len: u64) -> Result<(), PutFault>
+        ensures set { SetLength len (Self.seen self.old) result (Self.seen self.new) }
+        ensures nothing { IfErr result (λ fault. KeepsFile fault (Self.seen self.old) (Self.seen self.new)) }
+        ensures cause { GrowthCause (Self.faults self.old) (Self.faults self.new) result };
+
+    /// Adds the bytes at the end: all of them, or a front of them with `Failed`, or none with `NoMemory`.
+    fn append(&mut self, bytes: &[u8]) -> Result<(), PutFault>
+        ensures appended { Appended bytes.now (Self.seen self.old) result (Self.seen self.new) }
+        ensures nothing { IfErr result (λ fault. KeepsFile fault (Self.seen self.old) (Self.seen self.new)) }
+        ensures cause { GrowthCause (Self.faults self.old) (Self.faults self.new) result };
+}

@@ -4,19 +4,25 @@
 
 mod calls;
 mod fault;
+mod file_sink;
+mod file_source;
 mod image;
 mod line;
 mod meaning;
 mod memory;
+mod names;
 mod shelf;
 mod stream;
 
-pub use calls::{Calls, FailingCall, Leaves};
+pub use calls::{Calls, FailingCall, Leaves, one_more};
 pub use fault::{Failed, Faults, PutFault, ShelfFault, SinkFaults};
+pub use file_sink::FileSink;
+pub use file_source::FileSource;
 pub use image::{HostFile, Image};
 pub use line::Line;
 pub use meaning::{Lack, Missing, Named, Rule, UsageKind};
 pub use memory::{MemContent, MemFile, MemImage, MemShelf, MemSink, MemSource, Place};
+pub use names::{is_named, remove_name};
 pub use shelf::Shelf;
 pub use stream::{Sink, Source};
 

@@ -44,6 +44,81 @@ fn write_twice<S: Shelf>(
     Ok([one, two])
 }
 
+/// Makes a file, appends a text to it, and releases it.
+fn make<S: Shelf>(
+    shelf: &mut S,
+    name: &str,
+    must_be_new: bool,
+    text: &[u8],
+) -> Result<Result<(), PutFault>, ShelfFault>
+    requires { has_name name.now (S.seen shelf.old).attached ≡ false }
+{
+    let mut file = shelf.create(name, must_be_new)?;
+    let appended = append(&mut file, text);
+    shelf.release(file);
+    Ok(appended)
+}
+
+fn set_len<F: HostFile>(file: &mut F, len: u64) -> Result<(), PutFault> {
+    file.set_len(len)
+}
+
+fn append<F: HostFile>(file: &mut F, text: &[u8]) -> Result<(), PutFault>
+    ensures { (F.seen file.new).name ≡ (F.seen file.old).name }
+{
+    file.append(text)
+}
+
+fn file(alloc: Global, text: &[u8]) -> Result<MemFile, AllocError> {
+    Ok(MemFile {
+        name: String::from_str(alloc, "f")?,
+        inside: MemContent::new(alloc, bytes(alloc, text)?),
+    })
+}
+
+/// A file that tells nothing, and for which memory is always wanting.
+#[derive(Drop)]
+struct Poor;
+
+impl Image for Poor {
+    ghost use Rattle.std.specs.Prelude.{[], false};
+    ghost use Rattle.std.proofs.lemmas.Bool.{false≢true};
+
+    ghost seen = { λ _. record { is_told = false; content = []; size = 0; name = []; lower = [] } };
+
+    ghost faults = { λ _. record { reads = 0; writes = 0 } };
+
+    ghost told_size = { λ image told. absurd (false≢true told) };
+
+    fn len(&self) -> u64 {
+        0
+    }
+
+    fn read_at(&mut self, _at: u64, _into: &mut [u8]) -> Result<(), Failed> {
+        Ok(())
+    }
+
+    #[tactic(auto, unfolding(crate::specs::Writes::after_writes))]
+    fn write_at(&mut self, _at: u64, _bytes: &[u8]) -> Result<(), Failed> {
+        Ok(())
+    }
+
+    fn sync(&mut self) -> Result<(), Failed> {
+        Ok(())
+    }
+}
+
+impl HostFile for Poor {
+    fn set_len(&mut self, _len: u64) -> Result<(), PutFault> {
+        Err(PutFault::NoMemory)
+    }
+
+    #[tactic(auto, unfolding(crate::specs::Growth::after_append))]
+    fn append(&mut self, _bytes: &[u8]) -> Result<(), PutFault> {
+        Err(PutFault::NoMemory)
+    }
+}
+
 fn put<K: Sink>(sink: &mut K, text: &[u8]) -> Result<(), PutFault> {
     sink.put(text)
 }
@@ -163,6 +238,141 @@ fn a_shelf_refuses_what_it_has_not(rt: HostRuntime) -> Result<(), Fail> {
     assert_eq!(rt; shelf.made("c"), 3);
     assert_eq!(rt; shelf.faults.reads, 1);
     Ok(())
+}
+
+#[test]
+fn a_file_is_cut_and_extended(rt: HostRuntime) -> Result<(), Fail> {
+    let alloc = rt.alloc();
+    let mut made = file(alloc, b"0123")?;
+    made.inside.calls.fail(3, Leaves::Before)?;
+    made.inside.calls.fail(4, Leaves::Asked)?;
+    made.inside.calls.fail(5, Leaves::Front { bytes: 1 })?;
+    let cases = [
+        (3, Ok(()), b"012".as_slice()),
+        (5, Ok(()), b"012\0\0"),
+        (2, Err(PutFault::Failed), b"012\0\0"),
+        (2, Err(PutFault::Failed), b"01"),
+        (4, Err(PutFault::Failed), b"01"),
+        (u64::MAX, Err(PutFault::NoMemory), b"01"),
+    ];
+    for (len, answer, left) in cases {
+        assert_eq!(rt; set_len(&mut made, len), answer);
+        assert_eq!(rt; made.inside.bytes.as_slice(), left);
+    }
+    assert_eq!(rt; made.len(), 2);
+    assert_eq!(rt; made.inside.calls.made, 6);
+    assert_eq!(rt; made.inside.faults.writes, 3);
+    Ok(())
+}
+
+#[test]
+fn a_file_grows_by_a_front(rt: HostRuntime) -> Result<(), Fail> {
+    let alloc = rt.alloc();
+    let mut made = file(alloc, b"01")?;
+    made.inside.calls.fail(2, Leaves::Front { bytes: 2 })?;
+    made.inside.calls.fail(3, Leaves::Before)?;
+    made.inside.calls.fail(4, Leaves::Asked)?;
+    let cases = [
+        (b"ab".as_slice(), Ok(()), b"01ab".as_slice()),
+        (b"cde", Err(PutFault::Failed), b"01abcd"),
+        (b"e", Err(PutFault::Failed), b"01abcd"),
+        (b"e", Err(PutFault::Failed), b"01abcde"),
+    ];
+    for (text, answer, left) in cases {
+        assert_eq!(rt; append(&mut made, text), answer);
+        assert_eq!(rt; made.inside.bytes.as_slice(), left);
+    }
+    assert_eq!(rt; made.len(), 7);
+    assert_eq!(rt; made.inside.calls.made, 4);
+    assert_eq!(rt; made.inside.faults.writes, 3);
+    Ok(())
+}
+
+#[test]
+fn a_shelf_makes_files(rt: HostRuntime) -> Result<(), Fail> {
+    let alloc = rt.alloc();
+    let mut shelf = MemShelf::new(alloc);
+    shelf.add("a", bytes(alloc, b"one")?)?;
+    shelf.fail("b", 1, Leaves::Asked)?;
+    shelf.fail("b", 4, Leaves::Front { bytes: 1 })?;
+    let cases = [
+        ("a", true, Err(ShelfFault::Present), Some(b"one".as_slice())),
+        ("a", false, Ok(Ok(())), Some(b"xy".as_slice())),
+        ("b", true, Err(ShelfFault::Failed), None),
+        ("b", true, Ok(Ok(())), Some(b"xy".as_slice())),
+        ("b", true, Err(ShelfFault::Failed), Some(b"xy".as_slice())),
+        ("b", true, Err(ShelfFault::Present), Some(b"xy".as_slice())),
+        ("b", false, Ok(Ok(())), Some(b"xy".as_slice())),
+    ];
+    for (name, must_be_new, answer, left) in cases {
+        assert!(rt; shelf.attached.is_empty());
+        assert!(rt; make(&mut shelf, name, must_be_new, b"xy") == answer);
+        assert_eq!(rt; shelf.content(name), left);
+    }
+    assert_eq!(rt; shelf.made("a"), 3);
+    assert_eq!(rt; shelf.made("b"), 7);
+    assert_eq!(rt;
+        shelf.faults,
+        Faults {
+            reads: 0,
+            writes: 2
+        }
+    );
+    Ok(())
+}
+
+#[test]
+fn a_file_is_read_from_its_start(rt: HostRuntime) -> Result<(), Fail> {
+    let alloc = rt.alloc();
+    let mut inside = file(alloc, b"abcde")?;
+    inside.inside.calls.fail(2, Leaves::Before)?;
+    let mut source = FileSource::new(inside);
+    let mut into = [0; 3];
+    assert_eq!(rt; take(&mut source, &mut into), Ok(3));
+    assert!(rt; into == *b"abc");
+    assert_eq!(rt; take(&mut source, &mut into), Err(Failed));
+    assert_eq!(rt; take(&mut source, &mut into), Ok(2));
+    assert!(rt; into[0] == b'd' && into[1] == b'e');
+    assert_eq!(rt; take(&mut source, &mut into), Ok(0));
+    let left = source.into_file();
+    assert_eq!(rt; left.inside.bytes.as_slice(), b"abcde".as_slice());
+    assert_eq!(rt; left.inside.faults.reads, 1);
+    assert_eq!(rt; left.inside.calls.made, 4);
+    Ok(())
+}
+
+#[test]
+fn a_file_takes_what_is_put(rt: HostRuntime) -> Result<(), Fail> {
+    let alloc = rt.alloc();
+    let mut inside = file(alloc, b"a")?;
+    inside.inside.calls.fail(2, Leaves::Front { bytes: 1 })?;
+    inside.inside.calls.fail(3, Leaves::Before)?;
+    let mut sink = FileSink::new(inside);
+    assert!(rt; sink.is_flushed);
+    assert_eq!(rt; put(&mut sink, b"bc"), Ok(()));
+    assert!(rt; !sink.is_flushed);
+    assert_eq!(rt; put(&mut sink, b"de"), Err(PutFault::Failed));
+    assert_eq!(rt; flush(&mut sink), Err(Failed));
+    assert!(rt; !sink.is_flushed);
+    assert_eq!(rt; flush(&mut sink), Ok(()));
+    assert!(rt; sink.is_flushed);
+    assert_eq!(rt; sink.wants, 0);
+    let left = sink.into_file();
+    assert_eq!(rt; left.inside.bytes.as_slice(), b"abcd".as_slice());
+    assert_eq!(rt; left.inside.faults.writes, 2);
+    Ok(())
+}
+
+#[test]
+fn a_file_without_memory_is_wanting(rt: HostRuntime) {
+    let mut sink = FileSink::new(Poor);
+    assert_eq!(rt; put(&mut sink, b"a"), Err(PutFault::NoMemory));
+    assert_eq!(rt; put(&mut sink, b"a"), Err(PutFault::NoMemory));
+    assert_eq!(rt; sink.wants, 2);
+    let mut poor = sink.into_file();
+    assert_eq!(rt; set_len(&mut poor, 1), Err(PutFault::NoMemory));
+    let mut source = FileSource::new(poor);
+    assert_eq!(rt; take(&mut source, &mut [0; 1]), Ok(0));
 }
 
 #[test]

@@ -8,7 +8,7 @@ use Rattle.ntfs_base.specs.Stream.{SourceState, SinkState}
 use Rattle.ntfs_host.specs.declared.disk_file.DiskFile.{DiskFile}
 use Rattle.ntfs_host.specs.declared.disk_shelf.DiskShelf.{DiskShelf}
 
--- an open file: its name, and the length that it had when it was opened
+-- an open file: its name, and the length that it keeps
 abbrev pub seen_file : DiskFile → ImageState
 seen_file file = record { is_told = false; content = []; size = file.size; name = string_bytes file.name; lower = [] }
 

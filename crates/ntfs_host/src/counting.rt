@@ -1,19 +1,12 @@
 //! The counts of what failed outside the program.
 ghost use Rattle.std.specs.Prelude.{◌≡◌, Ok, IfOk, IsErr, OnErr};
 ghost use Rattle.std.specs.IoError.{error_kind};
-ghost use Rattle.ntfs_base.specs.Calls.{count_after, one_more as after_one_more};
-ghost use Rattle.ntfs_host.specs.Counting.{faults_after, refusal_of};
+ghost use Rattle.ntfs_base.specs.Calls.{count_after};
+ghost use Rattle.ntfs_host.specs.Counting.{create_refusal_of, faults_after, faults_after_create, refusal_of};
 
-use ntfs_base::{Failed, Faults, ShelfFault};
+use ntfs_base::{Failed, Faults, ShelfFault, one_more};
 use std::io;
 use std::io::ErrorKind;
-
-/// One more; a count stops at its last value.
-fn one_more(count: u64) -> u64
-    ensures { result ≡ after_one_more count }
-{
-    if count < u64::MAX { count + 1 } else { count }
-}
 
 /// The answer of a call of the system, which counts one failure more where it failed.
 pub(crate) fn counted<T>(failures: &mut u64, answer: io::Result<T>) -> Result<T, Failed>
@@ -40,6 +33,26 @@ pub(crate) fn refused(faults: &mut Faults, error: &io::Error) -> ShelfFault
         ErrorKind::OutOfMemory => ShelfFault::NoMemory,
         _ => {
             faults.reads = one_more(faults.reads);
+            ShelfFault::Failed
+        }
+    }
+}
+
+/// Why a file wasn't made: it had to be new and is there, memory was wanting, or else the call failed, which counts as a
+/// write.
+pub(crate) fn create_refused(
+    faults: &mut Faults,
+    must_be_new: bool,
+    error: &io::Error,
+) -> ShelfFault
+    ensures fault { result ≡ create_refusal_of must_be_new (error_kind error.now) }
+    ensures count { faults.new ≡ faults_after_create result faults.old }
+{
+    match error.kind() {
+        ErrorKind::AlreadyExists if must_be_new => ShelfFault::Present,
+        ErrorKind::OutOfMemory => ShelfFault::NoMemory,
+        _ => {
+            faults.writes = one_more(faults.writes);
             ShelfFault::Failed
         }
     }

@@ -1,9 +1,10 @@
-use crate::counting::refused;
+use crate::counting::{create_refused, refused};
 use crate::disk_file::{DiskFile, size_of};
-use ntfs_base::{Faults, Shelf, ShelfFault};
+use ntfs_base::{Faults, Shelf, ShelfFault, remove_name};
 use std::alloc::Global;
 use std::fs::{File, Files, OpenOptions};
 use std::io;
+use std::io::ErrorKind;
 
 /// The files of the system, by their paths. It opens each for reading and writing and, where that is refused, for reading
 /// alone; writes to such a file fail.
@@ -45,12 +46,28 @@ fn open<R: Files<File = File>>(files: &R, name: &str) -> io::Result<(File, u64)>
     Ok((file, size))
 }
 
+/// Makes an empty file. One that is there is emptied, unless the file must be new; what can't be emptied, as a device, is
+/// refused.
+fn make<R: Files<File = File>>(files: &R, name: &str, must_be_new: bool) -> io::Result<File> {
+    let mut file = OpenOptions::new()
+        .read(true)
+        .write(true)
+        .create(true)
+        .truncate(true)
+        .create_new(must_be_new)
+        .open(files, name)?;
+    if size_of(&mut file)? > 0 {
+        return Err(io::Error::from(ErrorKind::InvalidInput));
+    }
+    Ok(file)
+}
+
 impl<R: Files<File = File>> Shelf for DiskShelf<R> {
     type File = DiskFile;
 
-    ghost use Rattle.std.specs.Prelude.{◌≡◌, ◌≢◌, IfOk, IfErr, OnOk, OnErr};
-    ghost use Rattle.ntfs_base.specs.Shelf.{IsHandedOut, after_attach};
-    ghost use Rattle.ntfs_host.specs.Counting.{faults_after};
+    ghost use Rattle.std.specs.Prelude.{◌≡◌, ◌≢◌, IfOk, IfErr, IsTrue, OnOk, OnErr};
+    ghost use Rattle.ntfs_base.specs.Shelf.{IsHandedOut, IsCreated, after_attach, after_create};
+    ghost use Rattle.ntfs_host.specs.Counting.{faults_after, faults_after_create};
     ghost use Rattle.ntfs_host.specs.Seen.{seen_file, seen_shelf};
 
     ghost seen = { seen_shelf };
@@ -78,6 +95,28 @@ impl<R: Files<File = File>> Shelf for DiskShelf<R> {
         }
     }
 
+    fn create(&mut self, name: &str, must_be_new: bool) -> Result<DiskFile, ShelfFault>
+        ensures file { IfOk result (λ file. IsCreated (seen_shelf self.old) name.now must_be_new (seen_file file) file.faults) }
+        ensures created { OnOk result (seen_shelf self.new ≡ after_create name.now (seen_shelf self.old)) }
+        ensures refused { OnErr result (seen_shelf self.new ≡ seen_shelf self.old) }
+        ensures counted { IfErr result (λ fault. self.new.faults ≡ faults_after_create fault self.old.faults) }
+        ensures uncounted { OnOk result (self.new.faults ≡ self.old.faults) }
+        ensures never_absent { IfErr result (λ fault. fault ≢ ShelfFault.Absent) }
+        ensures present { IfErr result (λ fault. fault ≡ ShelfFault.Present → IsTrue must_be_new) }
+    {
+        let alloc = *self.attached.allocator();
+        let text = String::from_str(alloc, name)?;
+        let bears = text.clone()?;
+        self.attached.reserve(1)?;
+        match make(&self.files, name, must_be_new) {
+            Ok(file) => {
+                self.attached.insert(0, text).unwrap();
+                Ok(DiskFile::new(bears, file, 0))
+            }
+            Err(error) => Err(create_refused(&mut self.faults, must_be_new, &error)),
+        }
+    }
+
     fn release(&mut self, file: DiskFile) {
         let DiskFile {
             name,
@@ -89,26 +128,4 @@ impl<R: Files<File = File>> Shelf for DiskShelf<R> {
         self.faults.reads = self.faults.reads.saturating_add(faults.reads);
         self.faults.writes = self.faults.writes.saturating_add(faults.writes);
     }
-}
-
-ghost use Rattle.std.specs.Prelude.{◌≡◌, map, string_bytes};
-ghost use Rattle.std.specs.Str.{bytes_eq};
-ghost use Rattle.ntfs_base.specs.Shelf.{without};
-
-/// Takes the first of a name away.
-fn remove_name(names: &mut Vec<String>, name: &str)
-    ensures { map string_bytes names.new.items ≡ without name.now (map string_bytes names.old.items) }
-{
-    'names: for index in 0..names.len() {
-        if is_named(&names[index], name) {
-            names.remove(index);
-            return;
-        }
-    }
-}
-
-fn is_named(text: &String, name: &str) -> bool
-    ensures { result ≡ bytes_eq name.now (string_bytes text.now) }
-{
-    name == text.as_str()
 }

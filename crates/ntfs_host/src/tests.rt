@@ -2,7 +2,9 @@ ghost use Rattle.std.specs.Prelude.{◌≡◌, false};
 ghost use Rattle.ntfs_base.specs.Shelf.{has_name};
 
 use crate::{DiskShelf, StdInput, StdMessages, StdOutput};
-use ntfs_base::{Failed, Image, PutFault, Shelf, ShelfFault, Sink, Source};
+use ntfs_base::{
+    Failed, FileSink, FileSource, HostFile, Image, PutFault, Shelf, ShelfFault, Sink, Source,
+};
 use std::alloc::Allocator;
 use std::fs::{Files, Metadata, OpenOptions};
 use std::io::{ErrorKind, Read, Write};
@@ -103,6 +105,31 @@ fn attach_any<S: Shelf>(shelf: &mut S, name: &str) -> Result<S::File, ShelfFault
     shelf.attach(name)
 }
 
+fn append_any<F: HostFile>(file: &mut F, bytes: &[u8]) -> Result<(), PutFault>
+    ensures { (F.seen file.new).name ≡ (F.seen file.old).name }
+{
+    file.append(bytes)
+}
+
+fn set_len_any<F: HostFile>(file: &mut F, len: u64) -> Result<(), PutFault> {
+    file.set_len(len)
+}
+
+/// Makes a file, appends bytes to it, and releases it.
+fn make_any<S: Shelf>(
+    shelf: &mut S,
+    name: &str,
+    must_be_new: bool,
+    bytes: &[u8],
+) -> Result<Result<(), PutFault>, ShelfFault>
+    requires { has_name name.now (S.seen shelf.old).attached ≡ false }
+{
+    let mut file = shelf.create(name, must_be_new)?;
+    let appended = append_any(&mut file, bytes);
+    shelf.release(file);
+    Ok(appended)
+}
+
 fn sync_any<I: Image>(image: &mut I) -> Result<(), Failed>
     ensures { I.seen image.new ≡ I.seen image.old }
 {
@@ -177,7 +204,10 @@ fn a_file_that_is_opened_for_reading_alone_refuses_writes(rt: HostRuntime) -> Re
     file.read_at(15, &mut byte)?;
     assert_eq!(rt; byte, [7]);
     assert_eq!(rt; file.write_at(0, b"a"), Err(Failed));
-    assert_eq!(rt; file.faults.writes, 1);
+    assert_eq!(rt; file.set_len(1), Err(PutFault::Failed));
+    assert_eq!(rt; file.append(b"a"), Err(PutFault::Failed));
+    assert_eq!(rt; file.len(), 16);
+    assert_eq!(rt; file.faults.writes, 3);
     assert_eq!(rt; file.faults.reads, 0);
     fs::remove_file(&rt, name)?;
     Ok(())
@@ -199,6 +229,88 @@ fn an_error_of_the_system_gives_its_refusal(rt: HostRuntime) {
         assert_eq!(rt; shelf.attach("host_refused.img").err(), Some(refusal));
         assert_eq!(rt; shelf.faults.reads, reads);
     }
+}
+
+#[test]
+fn a_file_is_made_cut_and_extended(rt: HostRuntime) -> Result<(), Fail> {
+    let name = "host_made.img";
+    let _ = fs::remove_file(&rt, name);
+    let mut shelf = DiskShelf::new(rt.alloc(), &rt);
+    for (must_be_new, bytes, answer) in [
+        (true, b"abc".as_slice(), Ok(Ok(()))),
+        (true, b"x", Err(ShelfFault::Present)),
+        (false, b"de", Ok(Ok(()))),
+    ] {
+        assert!(rt; shelf.attached.is_empty());
+        assert!(rt; make_any(&mut shelf, name, must_be_new, bytes) == answer);
+    }
+    assert_eq!(rt; shelf.faults.writes, 0);
+    assert!(rt; shelf.attached.is_empty());
+    let mut file = shelf.attach(name)?;
+    assert_eq!(rt; file.len(), 2);
+    set_len_any(&mut file, 1)?;
+    append_any(&mut file, b"xy")?;
+    set_len_any(&mut file, 5)?;
+    assert_eq!(rt; set_len_any(&mut file, u64::MAX), Err(PutFault::Failed));
+    assert_eq!(rt; file.len(), 5);
+    let mut all = [7u8; 5];
+    assert_eq!(rt; file.read_at(0, &mut all), Ok(()));
+    assert_eq!(rt; all, *b"dxy\0\0");
+    assert_eq!(rt; fs::metadata(&rt, name)?.len(), 5);
+    fs::remove_file(&rt, name)?;
+    Ok(())
+}
+
+#[test]
+fn a_file_that_is_not_made_has_its_refusal(rt: HostRuntime) {
+    for (kind, must_be_new, refusal, writes) in [
+        (ErrorKind::AlreadyExists, true, ShelfFault::Present, 0),
+        (ErrorKind::AlreadyExists, false, ShelfFault::Failed, 1),
+        (ErrorKind::OutOfMemory, false, ShelfFault::NoMemory, 0),
+        (ErrorKind::NotFound, true, ShelfFault::Failed, 1),
+    ] {
+        let files = Refusing {
+            files: &rt,
+            writing: kind,
+            reading: None,
+        };
+        let mut shelf = DiskShelf::new(rt.alloc(), files);
+        assert_eq!(rt;
+            shelf.create("host_unmade.img", must_be_new).err(),
+            Some(refusal)
+        );
+        assert_eq!(rt; shelf.faults.writes, writes);
+        assert_eq!(rt; shelf.faults.reads, 0);
+        assert!(rt; shelf.attached.is_empty());
+    }
+    let mut shelf = DiskShelf::new(rt.alloc(), &rt);
+    assert_eq!(rt; shelf.create(".", false).err(), Some(ShelfFault::Failed));
+    assert_eq!(rt; shelf.faults.writes, 1);
+}
+
+#[test]
+fn a_file_is_a_sink_and_a_source(rt: HostRuntime) -> Result<(), Fail> {
+    let name = "host_stream.img";
+    let mut shelf = DiskShelf::new(rt.alloc(), &rt);
+    let mut sink = FileSink::new(shelf.create(name, false)?);
+    assert_eq!(rt; put_any(&mut sink, b"abc"), Ok(()));
+    assert_eq!(rt; put_any(&mut sink, b"de"), Ok(()));
+    assert_eq!(rt; sink.flush(), Ok(()));
+    let mut source = FileSource::new(sink.into_file());
+    let mut bytes = [0u8; 4];
+    assert_eq!(rt; take_any(&mut source, &mut bytes), Ok(4));
+    assert_eq!(rt; bytes, *b"abcd");
+    fs::write(&rt, name, b"abcd".as_slice())?;
+    assert_eq!(rt; take_any(&mut source, &mut bytes), Err(Failed));
+    fs::write(&rt, name, b"abcde".as_slice())?;
+    assert_eq!(rt; take_any(&mut source, &mut bytes), Ok(1));
+    assert_eq!(rt; bytes[0], b'e');
+    assert_eq!(rt; take_any(&mut source, &mut bytes), Ok(0));
+    let file = source.into_file();
+    assert_eq!(rt; file.len(), 5);
+    assert_eq!(rt; file.faults.reads, 1);
+    fs::remove_file(&rt, name)?;
+    Ok(())
 }
 
 #[test]

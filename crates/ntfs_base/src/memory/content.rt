@@ -1,5 +1,5 @@
-use crate::calls::{Calls, Leaves, one_more};
-use crate::fault::{Failed, Faults};
+use crate::calls::{Calls, Leaves, front, one_more};
+use crate::fault::{Failed, Faults, PutFault};
 use std::alloc::Global;
 
 /// Bytes in memory, the calls on them, and how many of these have failed.
@@ -12,7 +12,7 @@ pub struct MemContent {
 
 impl MemContent {
     ghost use Rattle.std.specs.Prelude.{◌≡◌, ◌+◌, ◌≤◌, [], length, slice_range, OnOk};
-    ghost use Rattle.ntfs_base.specs.Memory.{ReadsMemory, WritesMemory, SyncsMemory};
+    ghost use Rattle.ntfs_base.specs.Memory.{ReadsMemory, WritesMemory, SyncsMemory, SetsMemory, AppendsMemory, IsNumbered};
 
     /// These bytes, with no call yet and none that is to fail.
     pub fn new(alloc: Global, bytes: Vec<u8>) -> MemContent
@@ -76,9 +76,41 @@ impl MemContent {
         }
         Ok(())
     }
+
+    pub fn set_len(&mut self, len: u64) -> Result<(), PutFault>
+        ensures memory { SetsMemory len self.old result self.new }
+        ensures numbered { IsNumbered self.old self.new }
+    {
+        match self.calls.next() {
+            None => resize(&mut self.bytes, len),
+            Some(leaves) => {
+                if let Leaves::Asked = leaves {
+                    resize(&mut self.bytes, len)?;
+                }
+                self.faults.writes = one_more(self.faults.writes);
+                Err(PutFault::Failed)
+            }
+        }
+    }
+
+    pub fn append(&mut self, bytes: &[u8]) -> Result<(), PutFault>
+        ensures memory { AppendsMemory bytes.now self.old result self.new }
+        ensures numbered { IsNumbered self.old self.new }
+    {
+        let planned = self.calls.next();
+        if self.bytes.extend_from_slice(front(planned, bytes)).is_err() {
+            return Err(PutFault::NoMemory);
+        }
+        if planned.is_some() {
+            self.faults.writes = one_more(self.faults.writes);
+            return Err(PutFault::Failed);
+        }
+        Ok(())
+    }
 }
 
-ghost use Rattle.std.specs.Prelude.{◌≡◌, ◌+◌, ◌≤◌, length};
+ghost use Rattle.std.specs.Prelude.{◌≡◌, ◌<◌, ◌+◌, ◌≤◌, length, OnOk, OnErr, IfErr};
+ghost use Rattle.ntfs_base.specs.Growth.{resized};
 ghost use Rattle.ntfs_base.specs.Writes.{overwritten};
 
 fn overwrite(content: &mut [u8], at: u64, bytes: &[u8])
@@ -87,4 +119,18 @@ fn overwrite(content: &mut [u8], at: u64, bytes: &[u8])
 {
     let from = at as usize;
     content[from..from + bytes.len()].copy_from_slice(bytes);
+}
+
+/// Cuts the bytes to a length, or extends them with zeros. Where memory is wanting they stay.
+#[tactic(auto, unfolding(crate::specs::Growth::resized))]
+fn resize(bytes: &mut Vec<u8>, len: u64) -> Result<(), PutFault>
+    ensures resized { OnOk result (bytes.new.items ≡ resized len bytes.old.items) }
+    ensures wanting { IfErr result (λ fault. fault ≡ PutFault.NoMemory) }
+    ensures longer { OnErr result (length bytes.old.items < len) }
+    ensures same { OnErr result (bytes.new.items ≡ bytes.old.items) }
+{
+    match bytes.resize(len as usize, 0) {
+        Ok(()) => Ok(()),
+        Err(_) => Err(PutFault::NoMemory),
+    }
 }

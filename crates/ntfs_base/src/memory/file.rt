@@ -1,4 +1,4 @@
-use crate::fault::{Failed, Faults};
+use crate::fault::{Failed, Faults, PutFault};
 use crate::image::{HostFile, Image};
 use crate::memory::content::MemContent;
 
@@ -9,9 +9,10 @@ pub struct MemFile {
     pub inside: MemContent,
 }
 
-ghost use Rattle.std.specs.Prelude.{◌≡◌, ◌+◌, ◌≤◌, [], ◌∷◌, length, slice_range, string_bytes, IsTrue, OnOk, refl};
-ghost use Rattle.ntfs_base.specs.Causes.{ReadCause, WriteCause};
-ghost use Rattle.ntfs_base.specs.Memory.{ReadsMemory, WritesMemory, SyncsMemory, seen_of};
+ghost use Rattle.std.specs.Prelude.{◌≡◌, ◌+◌, ◌≤◌, [], ◌∷◌, length, slice_range, string_bytes, IsTrue, OnOk, IfErr, refl};
+ghost use Rattle.ntfs_base.specs.Causes.{ReadCause, WriteCause, GrowthCause};
+ghost use Rattle.ntfs_base.specs.Growth.{SetLength, Appended, KeepsFile};
+ghost use Rattle.ntfs_base.specs.Memory.{ReadsMemory, WritesMemory, SyncsMemory, SetsMemory, AppendsMemory, IsNumbered, seen_of};
 ghost use Rattle.ntfs_base.specs.Writes.{Wrote};
 
 impl Image for MemFile {
@@ -56,4 +57,26 @@ impl Image for MemFile {
     }
 }
 
-impl HostFile for MemFile {}
+impl HostFile for MemFile {
+    fn set_len(&mut self, len: u64) -> Result<(), PutFault>
+        ensures set { SetLength len (seen_of (string_bytes self.old.name) self.old.inside) result (seen_of (string_bytes self.new.name) self.new.inside) }
+        ensures nothing { IfErr result (λ fault. KeepsFile fault (seen_of (string_bytes self.old.name) self.old.inside) (seen_of (string_bytes self.new.name) self.new.inside)) }
+        ensures cause { GrowthCause self.old.inside.faults self.new.inside.faults result }
+        ensures memory { SetsMemory len self.old.inside result self.new.inside }
+        ensures numbered { IsNumbered self.old.inside self.new.inside }
+        ensures name { self.new.name ≡ self.old.name }
+    {
+        self.inside.set_len(len)
+    }
+
+    fn append(&mut self, bytes: &[u8]) -> Result<(), PutFault>
+        ensures appended { Appended bytes.now (seen_of (string_bytes self.old.name) self.old.inside) result (seen_of (string_bytes self.new.name) self.new.inside) }
+        ensures nothing { IfErr result (λ fault. KeepsFile fault (seen_of (string_bytes self.old.name) self.old.inside) (seen_of (string_bytes self.new.name) self.new.inside)) }
+        ensures cause { GrowthCause self.old.inside.faults self.new.inside.faults result }
+        ensures memory { AppendsMemory bytes.now self.old.inside result self.new.inside }
+        ensures numbered { IsNumbered self.old.inside self.new.inside }
+        ensures name { self.new.name ≡ self.old.name }
+    {
+        self.inside.append(bytes)
+    }
+}

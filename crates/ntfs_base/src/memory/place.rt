@@ -13,10 +13,10 @@ pub struct Place {
     pub calls: Calls,
 }
 
-ghost use Rattle.std.specs.Prelude.{◌≡◌, ◌++◌, [], ◌∷◌, Some, None, is_some, true, string_bytes, IfOk, IsSomeAnd, OnOk, OnErr, IsErrOf};
+ghost use Rattle.std.specs.Prelude.{◌≡◌, ◌++◌, [], ◌∷◌, Some, None, is_some, true, string_bytes, IfOk, IsSome, IsSomeAnd, IsTrue, OnOk, OnErr, IsErrOf};
 ghost use Rattle.std.specs.FinMap.{insert};
 ghost use Rattle.std.specs.Option.{option_map};
-ghost use Rattle.ntfs_base.specs.MemShelf.{index_of, place_of, bytes_of, files_of, failing_by, made_by, IsFresh, KeepsFiles, KeepsCalls, AttachesAsPlanned, KeepsOthers, KeepsPlaces};
+ghost use Rattle.ntfs_base.specs.MemShelf.{index_of, place_of, bytes_of, files_of, failing_by, made_by, IsFresh, IsEmptyFile, KeepsFiles, KeepsCalls, CreatesFile, AttachesAsPlanned, CreatesAsPlanned, KeepsOthers, KeepsPlaces};
 ghost use Rattle.ntfs_base.specs.Shelf.{file_of};
 
 /// Where the first place of a name stands.
@@ -61,6 +61,33 @@ pub(crate) fn index_for(
     }
 }
 
+/// A file with these bytes under the name of a place, with no fault yet. It takes the calls of the place.
+fn lend(alloc: Global, place: &mut Place, bytes: Vec<u8>) -> Result<MemFile, AllocError>
+    ensures name { place.new.name ≡ place.old.name }
+    ensures content { place.new.content ≡ place.old.content }
+    ensures calls { IfOk result (λ file. file.inside.calls ≡ place.old.calls) }
+    ensures same { OnErr result (place.new.calls ≡ place.old.calls) }
+    ensures bears { IfOk result (λ file. string_bytes file.name ≡ string_bytes place.old.name) }
+    ensures bytes { IfOk result (λ file. file.inside.bytes ≡ bytes) }
+    ensures reads { IfOk result (λ file. file.inside.faults.reads ≡ 0) }
+    ensures writes { IfOk result (λ file. file.inside.faults.writes ≡ 0) }
+{
+    let name = place.name.clone()?;
+    let calls = mem::replace(&mut place.calls, Calls::new(alloc));
+    let faults = Faults {
+        reads: 0,
+        writes: 0,
+    };
+    Ok(MemFile {
+        name,
+        inside: MemContent {
+            bytes,
+            calls,
+            faults,
+        },
+    })
+}
+
 /// Counts an attach, and makes the file that it hands out, with the calls of the place.
 pub(crate) fn hand_out(alloc: Global, place: &mut Place) -> Result<MemFile, ShelfFault>
     ensures name { place.new.name ≡ place.old.name }
@@ -79,20 +106,7 @@ pub(crate) fn hand_out(alloc: Global, place: &mut Place) -> Result<MemFile, Shel
         None => return Err(ShelfFault::Absent),
         Some(bytes) => bytes.clone()?,
     };
-    let name = place.name.clone()?;
-    let calls = mem::replace(&mut place.calls, Calls::new(alloc));
-    let faults = Faults {
-        reads: 0,
-        writes: 0,
-    };
-    Ok(MemFile {
-        name,
-        inside: MemContent {
-            bytes,
-            calls,
-            faults,
-        },
-    })
+    Ok(lend(alloc, place, bytes)?)
 }
 
 /// Hands out the file of a name, and counts the call under it.
@@ -131,6 +145,63 @@ fn attach_at(
     ensures absent { IsErrOf result ShelfFault.Absent → file_of (files_of places.old.items) name.now ≡ None }
 {
     hand_out(alloc, &mut places[index])
+}
+
+/// Counts a create, and makes the empty file that it hands out, with the calls of the place.
+fn make(alloc: Global, place: &mut Place, must_be_new: bool) -> Result<MemFile, ShelfFault>
+    ensures name { place.new.name ≡ place.old.name }
+    ensures planned { CreatesAsPlanned (Some place.old) result (Some place.new) }
+    ensures file { IfOk result (IsEmptyFile (string_bytes place.old.name)) }
+    ensures created { OnOk result (bytes_of place.new ≡ Some []) }
+    ensures refused { OnErr result (place.new.content ≡ place.old.content) }
+    ensures fresh { IsTrue must_be_new → OnOk result (bytes_of place.old ≡ None) }
+    ensures present { IsErrOf result ShelfFault.Present → IsTrue must_be_new × IsSome (bytes_of place.old) }
+{
+    if place.calls.next().is_some() {
+        return Err(ShelfFault::Failed);
+    }
+    if must_be_new && place.content.is_some() {
+        return Err(ShelfFault::Present);
+    }
+    let file = lend(alloc, place, Vec::new(alloc))?;
+    place.content = Some(Vec::new(alloc));
+    Ok(file)
+}
+
+/// Makes an empty file of a name, hands it out, and counts the call under it.
+pub(crate) fn create_in(
+    alloc: Global,
+    places: &mut Vec<Place>,
+    name: &str,
+    must_be_new: bool,
+) -> Result<MemFile, ShelfFault>
+    ensures files { CreatesFile name.now places.old.items result places.new.items }
+    ensures planned { CreatesAsPlanned (place_of name.now places.old.items) result (place_of name.now places.new.items) }
+    ensures placed { OnOk result (is_some (place_of name.now places.new.items) ≡ true) }
+    ensures file { IfOk result (IsEmptyFile name.now) }
+    ensures fresh { IsTrue must_be_new → OnOk result (file_of (files_of places.old.items) name.now ≡ None) }
+    ensures present { IsErrOf result ShelfFault.Present → IsTrue must_be_new × IsSome (file_of (files_of places.old.items) name.now) }
+{
+    let index = index_for(alloc, places, name)?;
+    create_at(alloc, places, name, index, must_be_new)
+}
+
+fn create_at(
+    alloc: Global,
+    places: &mut Vec<Place>,
+    name: &str,
+    index: usize,
+    must_be_new: bool,
+) -> Result<MemFile, ShelfFault>
+    requires { index_of name.now places.old.items ≡ Some index }
+    ensures files { CreatesFile name.now places.old.items result places.new.items }
+    ensures planned { CreatesAsPlanned (place_of name.now places.old.items) result (place_of name.now places.new.items) }
+    ensures placed { is_some (place_of name.now places.new.items) ≡ true }
+    ensures file { IfOk result (IsEmptyFile name.now) }
+    ensures fresh { IsTrue must_be_new → OnOk result (file_of (files_of places.old.items) name.now ≡ None) }
+    ensures present { IsErrOf result ShelfFault.Present → IsTrue must_be_new × IsSome (file_of (files_of places.old.items) name.now) }
+{
+    make(alloc, &mut places[index], must_be_new)
 }
 
 fn fill(place: &mut Place, bytes: Vec<u8>, calls: Calls)

@@ -6,13 +6,14 @@ use crate::fault::{Faults, ShelfFault};
 use crate::memory::content::MemContent;
 use crate::memory::file::MemFile;
 use crate::memory::place::{
-    Place, attach_in, content_at, fail_at, find, index_for, made_at, put_back,
+    Place, attach_in, content_at, create_in, fail_at, find, index_for, made_at, put_back,
 };
+use crate::names::remove_name;
 use crate::shelf::Shelf;
 use std::alloc::{AllocError, Global};
 
-/// A shelf in memory. It numbers the calls under each name by themselves, `attach` among them, and hands each file its
-/// name's count and list of failing calls.
+/// A shelf in memory. It numbers the calls under each name by themselves, `attach` and `create` among them, and hands each
+/// file its name's count and list of failing calls.
 #[derive(Drop)]
 pub struct MemShelf {
     pub places: Vec<Place>,
@@ -97,8 +98,8 @@ impl Shelf for MemShelf {
     ghost use Rattle.std.specs.Prelude.{◌≡◌, false, true, string_bytes, IsSomeAnd, IfOk, IfErr, OnOk, OnErr};
     ghost use Rattle.ntfs_base.specs.Causes.{HaveNotFallen};
     ghost use Rattle.ntfs_base.specs.Memory.{seen_of};
-    ghost use Rattle.ntfs_base.specs.MemShelf.{seen_shelf, place_of, AttachesAsPlanned, KeepsOthers};
-    ghost use Rattle.ntfs_base.specs.Shelf.{IsHandedOut, AttachCause, after_attach, after_release, has_name, added_count};
+    ghost use Rattle.ntfs_base.specs.MemShelf.{seen_shelf, place_of, AttachesAsPlanned, CreatesAsPlanned, KeepsOthers};
+    ghost use Rattle.ntfs_base.specs.Shelf.{IsHandedOut, IsCreated, AttachCause, CreateCause, after_attach, after_create, after_release, has_name, added_count};
 
     ghost seen = { λ shelf. seen_shelf shelf.places.items shelf.attached.items };
 
@@ -130,6 +131,32 @@ impl Shelf for MemShelf {
         }
     }
 
+    fn create(&mut self, name: &str, must_be_new: bool) -> Result<MemFile, ShelfFault>
+        requires { has_name name.now (seen_shelf self.old.places.items self.old.attached.items).attached ≡ false }
+        ensures file { IfOk result (λ file. IsCreated (seen_shelf self.old.places.items self.old.attached.items) name.now must_be_new (seen_of (string_bytes file.name) file.inside) file.inside.faults) }
+        ensures created { OnOk result (seen_shelf self.new.places.items self.new.attached.items ≡ after_create name.now (seen_shelf self.old.places.items self.old.attached.items)) }
+        ensures refused { OnErr result (seen_shelf self.new.places.items self.new.attached.items ≡ seen_shelf self.old.places.items self.old.attached.items) }
+        ensures refusal { IfErr result (λ fault. CreateCause fault (seen_shelf self.old.places.items self.old.attached.items) name.now must_be_new self.old.faults self.new.faults) }
+        ensures counts { HaveNotFallen self.old.faults self.new.faults }
+        ensures planned { CreatesAsPlanned (place_of name.now self.old.places.items) result (place_of name.now self.new.places.items) }
+        ensures others { KeepsOthers name.now self.old.places.items self.new.places.items }
+    {
+        let alloc = *self.places.allocator();
+        let text = String::from_str(alloc, name)?;
+        self.attached.reserve(1)?;
+        match create_in(alloc, &mut self.places, name, must_be_new) {
+            Ok(file) => {
+                self.attached.insert(0, text).unwrap();
+                Ok(file)
+            }
+            Err(ShelfFault::Failed) => {
+                self.faults.writes = one_more(self.faults.writes);
+                Err(ShelfFault::Failed)
+            }
+            Err(fault) => Err(fault),
+        }
+    }
+
     fn release(&mut self, file: MemFile)
         requires { has_name (string_bytes file.name) (seen_shelf self.old.places.items self.old.attached.items).attached ≡ true }
         ensures released { seen_shelf self.new.places.items self.new.attached.items ≡ after_release (seen_of (string_bytes file.name) file.inside) (seen_shelf self.old.places.items self.old.attached.items) }
@@ -150,26 +177,4 @@ impl Shelf for MemShelf {
         self.faults.reads = self.faults.reads.saturating_add(faults.reads);
         self.faults.writes = self.faults.writes.saturating_add(faults.writes);
     }
-}
-
-ghost use Rattle.std.specs.Prelude.{◌≡◌};
-ghost use Rattle.std.specs.Str.{bytes_eq};
-ghost use Rattle.ntfs_base.specs.Shelf.{without};
-
-/// Takes the first of a name away.
-fn remove_name(names: &mut Vec<String>, name: &str)
-    ensures { map string_bytes names.new.items ≡ without name.now (map string_bytes names.old.items) }
-{
-    for index in 0..names.len() {
-        if is_named(&names[index], name) {
-            names.remove(index);
-            return;
-        }
-    }
-}
-
-fn is_named(text: &String, name: &str) -> bool
-    ensures { result ≡ bytes_eq name.now (string_bytes text.now) }
-{
-    name == text.as_str()
 }

@@ -1,4 +1,4 @@
-use crate::calls::{Calls, Leaves, one_more};
+use crate::calls::{Calls, front, one_more};
 use crate::fault::{Failed, PutFault, SinkFaults};
 use crate::stream::Sink;
 use std::alloc::Global;
@@ -35,20 +35,6 @@ impl MemSink {
                 wants: 0,
             },
         }
-    }
-}
-
-ghost use Rattle.std.specs.Prelude.{◌≡◌};
-ghost use Rattle.ntfs_base.specs.Calls.{front_by};
-
-/// The bytes that a put takes, by what is planned for it.
-fn front(planned: Option<Leaves>, bytes: &[u8]) -> &[u8]
-    ensures { result.now ≡ front_by planned bytes.entry.now }
-{
-    match planned {
-        None | Some(Leaves::Asked) => bytes,
-        Some(Leaves::Before) => &bytes[..0],
-        Some(Leaves::Front { bytes: count }) => &bytes[..bytes.len().min(count as usize)],
     }
 }
 

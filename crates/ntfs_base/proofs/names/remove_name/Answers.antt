@@ -1,7 +1,7 @@
 use Rattle.std.proofs.Common.{rules, ◌<◌, sym, ◌∙◌, length, ap, map, string_bytes}
 use Rattle.ntfs_base.specs.Shelf.{without}
 use Rattle.ntfs_base.proofs.ShelfLemmas.{without_text, next_text}
-use Rattle.ntfs_host.proofs.disk_shelf.remove_name.Goals as goal
+use Rattle.ntfs_base.proofs.names.remove_name.Goals as goal
 
 pub returns-then-is_named : goal.returns-then-is_named
 returns-then-is_named c =
