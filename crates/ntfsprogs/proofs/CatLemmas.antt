@@ -20,7 +20,7 @@ use Rattle.ntfsprogs.specs.Words.{cat_image, word_at}
 use Rattle.ntfsprogs.specs.declared.status.Status.{Status}
 use Rattle.ntfsprogs.specs.declared.status.Status.TheVariants as status
 use Rattle.ntfsprogs.specs.declared.words.Tool.{Tool}
-use Rattle.ntfsprogs.specs.declared.words.Tool.TheVariants.{Info, Cat}
+use Rattle.ntfsprogs.specs.declared.words.Tool.TheVariants.{Info, Cat, Make}
 
 abbrev IsDone : Status → Type 0
 IsDone status.Done = Unit {0}
@@ -158,4 +158,5 @@ pub puts_stream : (tool : Option Tool) (words : List (List ℕ)) (files : Files)
     → Answers (tool_outcome tool words files) s old new → IfCat tool (IfDone s (PutsStream words files old new))
 puts_stream None words files s old new a = tt
 puts_stream (Some Info) words files s old new a = tt
+puts_stream (Some Make) words files s old new a = tt
 puts_stream (Some Cat) words files s old new a = if_done s (PutsStream words files old new) (λ is. done_cat words files old new (subst (λ t. Answers (cat_line_outcome words files) t old new) is a))

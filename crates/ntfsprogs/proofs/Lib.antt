@@ -2,3 +2,4 @@ pub mod MessageLemmas
 pub mod OutcomeLemmas
 pub mod NumberLemmas
 pub mod CatLemmas
+pub mod MakeLemmas

@@ -1,21 +1,19 @@
 -- How answers give outcomes.
-use Rattle.std.proofs.Common.{◌≡◌, ℕ, List, length, refl, sym, ap, subst, ◌∙◌, arith, Result, Ok, Err, Option, Some, None, IsTrue}
+use Rattle.std.proofs.Common.{◌≡◌, ℕ, List, [], length, refl, sym, ap, subst, ◌∙◌, arith, Result, Ok, Err, Option, None, IsTrue}
 use Rattle.std.proofs.Common.{inl, inr}
 use Rattle.std.proofs.lemmas.List.{take_all}
 use Rattle.ntfs_base.specs.Causes.{SinkCause}
 use Rattle.ntfs_base.specs.declared.fault.PutFault.{PutFault}
 use Rattle.ntfs_base.specs.declared.fault.PutFault.TheVariants as put
 use Rattle.ntfs_base.specs.declared.fault.SinkFaults.{SinkFaults}
-use Rattle.ntfsprogs.specs.Reply.{PutsMessage, files_after}
-use Rattle.ntfsprogs.specs.declared.words.Tool.{Tool}
-use Rattle.ntfsprogs.specs.declared.words.Tool.TheVariants.{Info, Cat}
+use Rattle.ntfsprogs.specs.Reply.{PutsMessage}
 use Rattle.ntfs_base.specs.Stream.{SinkState, Put, after_put}
 use Rattle.ntfs_base.proofs.StreamLemmas.{after_put-nil}
 use Rattle.ntfs_base.specs.declared.meaning.Named.TheVariants as named
 use Rattle.ntfs_base.specs.declared.fault.ShelfFault.{ShelfFault}
 use Rattle.ntfs_base.specs.declared.fault.ShelfFault.TheVariants as shelf_fault
 use Rattle.ntfs_base.specs.declared.fault.Faults.{Faults}
-use Rattle.ntfs_base.specs.Shelf.{Files, ShelfState, AttachCause, file_of}
+use Rattle.ntfs_base.specs.Shelf.{ShelfState, AttachCause, file_of}
 use Rattle.ntfs_boot.specs.Geometry.{Judges}
 use Rattle.ntfs_boot.specs.declared.geometry.Geometry.{Geometry}
 use Rattle.ntfs_boot.specs.declared.volume.ImageFault.{ImageFault}
@@ -69,8 +67,11 @@ puts_message line old new before after (Ok x) is cause = record {
 puts_message line old new before after (Err put.Failed) is cause = record { whole = inr (inl cause.cause); front = is.part }
 puts_message line old new before after (Err put.NoMemory) is cause = record { whole = inr (inr cause.cause); front = is.part }
 
--- no tool changes a file yet
-pub files_shown : (tool : Option Tool) (words : List (List ℕ)) (files : Files) → files_after tool words files ≡ files
-files_shown None words files = refl
-files_shown (Some Info) words files = refl
-files_shown (Some Cat) words files = refl
+-- nothing is put whatever comes
+pub answers_nothing : (outcome : Outcome) (result : Status) (old new : SinkState) → (IsSettled result → result ≡ outcome.status) → outcome.output ≡ [] → new ≡ old
+    → Answers outcome result old new
+answers_nothing outcome result old new is nothing same = record {
+  status = is;
+  output = λ settled. same ∙ sym (ap (λ bytes. after_put bytes old) nothing ∙ after_put-nil old);
+  front = (0, omega arith, same ∙ sym (after_put-nil old));
+}

@@ -8,5 +8,6 @@ pub mod Outcome
 pub mod Info
 pub mod Numbers
 pub mod Cat
+pub mod Make
 pub mod Message
 pub mod Reply

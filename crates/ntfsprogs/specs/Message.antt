@@ -17,7 +17,7 @@ use Rattle.ntfsprogs.specs.Words.{tool_name, tool_of, word_at}
 use Rattle.ntfsprogs.specs.declared.status.Status.{Status}
 use Rattle.ntfsprogs.specs.declared.status.Status.TheVariants as status
 use Rattle.ntfsprogs.specs.declared.words.Tool.{Tool}
-use Rattle.ntfsprogs.specs.declared.words.Tool.TheVariants.{Info, Cat}
+use Rattle.ntfsprogs.specs.declared.words.Tool.TheVariants.{Info, Cat, Make}
 
 -- a text and a number
 abbrev pub counted : List ℕ → ℕ → List ℕ
@@ -111,6 +111,7 @@ abbrev pub name_of : Option Tool → Named → List (List ℕ) → List ℕ
 name_of None file words = []
 name_of (Some Info) file words = word_at 2 words
 name_of (Some Cat) file words = word_at 3 words
+name_of (Some Make) file words = word_at 1 words
 
 -- the name that a status speaks of
 abbrev pub named_in : Status → Option Tool → List (List ℕ) → List ℕ

@@ -8,13 +8,14 @@ use Rattle.ntfs_base.specs.declared.fault.SinkFaults.{SinkFaults}
 use Rattle.ntfs_base.specs.declared.meaning.UsageKind.TheVariants as usage
 use Rattle.ntfsprogs.specs.Cat.{cat_line_outcome}
 use Rattle.ntfsprogs.specs.Info.{info_outcome, refused}
+use Rattle.ntfsprogs.specs.Make.{make_line_files, make_line_outcome}
 use Rattle.ntfsprogs.specs.Message.{message_of}
 use Rattle.ntfsprogs.specs.Outcome.{Outcome, PutsFront}
 use Rattle.ntfsprogs.specs.Words.{tool_of}
 use Rattle.ntfsprogs.specs.declared.status.Status.{Status}
 use Rattle.ntfsprogs.specs.declared.status.Status.TheVariants as status
 use Rattle.ntfsprogs.specs.declared.words.Tool.{Tool}
-use Rattle.ntfsprogs.specs.declared.words.Tool.TheVariants.{Info, Cat}
+use Rattle.ntfsprogs.specs.declared.words.Tool.TheVariants.{Info, Cat, Make}
 
 pub record Reply : Type 0 where
   pub status : Status
@@ -27,12 +28,14 @@ abbrev pub tool_outcome : Option Tool → List (List ℕ) → Files → Outcome
 tool_outcome None words files = refused (status.Usage usage.Tool)
 tool_outcome (Some Info) words files = info_outcome words files
 tool_outcome (Some Cat) words files = cat_line_outcome words files
+tool_outcome (Some Make) words files = make_line_outcome words files
 
 -- the files afterwards: a tool that only shows changes none
 abbrev pub files_after : Option Tool → List (List ℕ) → Files → Files
 files_after None words files = files
 files_after (Some Info) words files = files
 files_after (Some Cat) words files = files
+files_after (Some Make) words files = make_line_files words files
 
 unfoldable pub reply : List (List ℕ) → Files → SourceState → Reply
 reply words files input = record {
@@ -47,6 +50,7 @@ abbrev pub IsListed : Status → Type 0
 IsListed status.Done = Unit {0}
 IsListed (status.Usage kind) = Unit {0}
 IsListed (status.Absent file) = Unit {0}
+IsListed (status.Present file) = Unit {0}
 IsListed status.NotNtfs = Unit {0}
 IsListed (status.BadGeometry field value) = Unit {0}
 IsListed (status.ImageShort len need) = Unit {0}
@@ -68,3 +72,4 @@ abbrev pub ShowsOnly : Option Tool → Type 0 → Type 0
 ShowsOnly None unchanged = unchanged
 ShowsOnly (Some Info) unchanged = unchanged
 ShowsOnly (Some Cat) unchanged = unchanged
+ShowsOnly (Some Make) unchanged = Unit {0}

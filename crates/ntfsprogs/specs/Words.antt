@@ -4,7 +4,7 @@ use Rattle.std.specs.List.{starts_with}
 use Rattle.std.specs.Str.{bytes_eq}
 use Rattle.std.specs.Prelude.{nat_eq}
 use Rattle.ntfsprogs.specs.declared.words.Tool.{Tool}
-use Rattle.ntfsprogs.specs.declared.words.Tool.TheVariants.{Info, Cat}
+use Rattle.ntfsprogs.specs.declared.words.Tool.TheVariants.{Info, Cat, Make}
 
 -- the word at a place, counted from 0
 abbrev pub word_at : ℕ → List (List ℕ) → List ℕ
@@ -14,10 +14,11 @@ word_at i words = get_or words i []
 unfoldable pub tool_name : Tool → List ℕ
 tool_name Info = codes "ntfsinfo"
 tool_name Cat = codes "ntfscat"
+tool_name Make = codes "ntfsmake"
 
 -- the tool that a word names
 unfoldable pub tool_named : List ℕ → Option Tool
-tool_named word = if bytes_eq word (tool_name Info) then Some Info else (if bytes_eq word (tool_name Cat) then Some Cat else None)
+tool_named word = if bytes_eq word (tool_name Info) then Some Info else (if bytes_eq word (tool_name Cat) then Some Cat else (if bytes_eq word (tool_name Make) then Some Make else None))
 
 -- the tool of a command line
 abbrev pub tool_of : List (List ℕ) → Option Tool
@@ -37,3 +38,7 @@ info_image words =
 unfoldable pub cat_image : List (List ℕ) → Option (List ℕ)
 cat_image words =
     if length words == 4 && (bytes_eq (word_at 1 words) (codes "-i") && not (is_option (word_at 3 words))) then Some (word_at 3 words) else None
+
+-- ntfsmake takes exactly its own name, the name of a file that is no option, and three numbers
+unfoldable pub make_file : List (List ℕ) → Option (List ℕ)
+make_file words = if length words == 5 && not (is_option (word_at 1 words)) then Some (word_at 1 words) else None

@@ -4,6 +4,7 @@
 mod arguments;
 mod cat;
 mod info;
+mod make;
 mod message;
 mod number;
 mod run;

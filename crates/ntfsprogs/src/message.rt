@@ -305,6 +305,7 @@ fn name_of<'a>(tool: Option<Tool>, _file: Named, words: &'a [String]) -> &'a [u8
         None => b"",
         Some(Tool::Info) => word_at(words, 2),
         Some(Tool::Cat) => word_at(words, 3),
+        Some(Tool::Make) => word_at(words, 1),
     }
 }
 

@@ -3,13 +3,15 @@ ghost use Rattle.std.specs.Prelude.{◌≡◌, ◌⊎◌, [], IsTrue, map, strin
 ghost use Rattle.ntfs_base.specs.Causes.{HaveNotFallen, Rose};
 ghost use Rattle.ntfs_base.specs.Stream.{after_put};
 ghost use Rattle.ntfsprogs.specs.Cat.{IfCat, IfDone, PutsStream};
+ghost use Rattle.ntfsprogs.specs.Make.{IfMake, LeavesOutput};
 ghost use Rattle.ntfsprogs.specs.Message.{message_of};
 ghost use Rattle.ntfsprogs.specs.Outcome.{Answers, FaultCause, IsSettled, IsWhole, PutsFront, SinkHasNotFallen};
-ghost use Rattle.ntfsprogs.specs.Reply.{IsListed, PutsMessage, ShowsOnly, reply, tool_outcome};
+ghost use Rattle.ntfsprogs.specs.Reply.{IsListed, PutsMessage, ShowsOnly, files_after, reply, tool_outcome};
 ghost use Rattle.ntfsprogs.specs.Words.{tool_of};
 
 use crate::cat::cat;
 use crate::info::info;
+use crate::make::make_line;
 use crate::message::put_message;
 use crate::status::Status;
 use crate::words::{Tool, tool_of};
@@ -60,6 +62,10 @@ pub fn run<S: Shelf, I: Source, O: Sink, E: Sink>(
     // A tool that only shows leaves the shelf as it was, on every exit.
     ensures shows { ShowsOnly (tool_of (map string_bytes words.now)) (S.seen shelf.new ≡ S.seen shelf.old) }
 
+    // ntfsmake leaves the files as they were, or with a new file, which is empty, or has its length and bytes of which each is
+    // zero or that of the volume.
+    ensures left { IsTrue (S.seen shelf.old).is_told → IfMake (tool_of (map string_bytes words.now)) (LeavesOutput (map string_bytes words.now) (S.seen shelf.old).files (S.seen shelf.new).files) }
+
     // A fault is answered only where a count of faults rose, or stood at its last value; no count falls.
     ensures read_fault { result ≡ Status.ReadFault → (Rose (S.faults shelf.old).reads (S.faults shelf.new).reads) ⊎ (Rose (I.faults input.old) (I.faults input.new)) }
     ensures write_fault { result ≡ Status.WriteFault → (Rose (S.faults shelf.old).writes (S.faults shelf.new).writes) ⊎ (Rose (O.faults out.old).failures (O.faults out.new).failures) }
@@ -77,10 +83,13 @@ fn answer<S: Shelf, O: Sink>(alloc: Global, words: &[String], shelf: &mut S, out
     requires { (S.seen shelf.old).attached ≡ [] }
     ensures answers { IsTrue (S.seen shelf.old).is_told → Answers (tool_outcome (tool_of (map string_bytes words.now)) (map string_bytes words.now) (S.seen shelf.old).files) result (O.seen out.old) (O.seen out.new) }
     ensures flushed { IsWhole result (O.is_flushed out.new ≡ true) }
-    ensures cause { FaultCause result (Rose (S.faults shelf.old).reads (S.faults shelf.new).reads) (Rose (O.faults out.old).failures (O.faults out.new).failures) }
+    ensures cause { FaultCause result (Rose (S.faults shelf.old).reads (S.faults shelf.new).reads) ((Rose (S.faults shelf.old).writes (S.faults shelf.new).writes) ⊎ (Rose (O.faults out.old).failures (O.faults out.new).failures)) }
     ensures counts { SinkHasNotFallen (O.faults out.old) (O.faults out.new) }
     ensures listed { IsListed result }
-    ensures seen { S.seen shelf.new ≡ S.seen shelf.old }
+    ensures detached { (S.seen shelf.new).attached ≡ [] }
+    ensures shows { ShowsOnly (tool_of (map string_bytes words.now)) (S.seen shelf.new ≡ S.seen shelf.old) }
+    ensures files { IsTrue (S.seen shelf.old).is_told → IsSettled result → (S.seen shelf.new).files ≡ files_after (tool_of (map string_bytes words.now)) (map string_bytes words.now) (S.seen shelf.old).files }
+    ensures left { IsTrue (S.seen shelf.old).is_told → IfMake (tool_of (map string_bytes words.now)) (LeavesOutput (map string_bytes words.now) (S.seen shelf.old).files (S.seen shelf.new).files) }
     ensures faults { HaveNotFallen (S.faults shelf.old) (S.faults shelf.new) }
 {
     match tool_of(words) {
@@ -89,5 +98,6 @@ fn answer<S: Shelf, O: Sink>(alloc: Global, words: &[String], shelf: &mut S, out
         },
         Some(Tool::Info) => info(words, shelf, out),
         Some(Tool::Cat) => cat(alloc, words, shelf, out),
+        Some(Tool::Make) => make_line(alloc, words, shelf, out),
     }
 }

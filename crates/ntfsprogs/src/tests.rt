@@ -3,6 +3,7 @@ ghost use Rattle.std.specs.Prelude.{◌≡◌, ◌≤◌, [], length, vec_len, I
 ghost use Rattle.ntfs_base.specs.MemShelf.{seen_shelf};
 
 mod cat;
+mod make;
 mod volume;
 
 use crate::message::put_message;

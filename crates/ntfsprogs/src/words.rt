@@ -1,12 +1,13 @@
 ghost use Rattle.std.specs.Prelude.{◌≡◌, ◌≤◌, length, map, string_bytes, IfSome};
 ghost use Rattle.std.specs.Option.{option_map};
-ghost use Rattle.ntfsprogs.specs.Words.{cat_image, info_image, is_option, tool_name, tool_named, tool_of, word_at};
+ghost use Rattle.ntfsprogs.specs.Words.{cat_image, info_image, make_file, is_option, tool_name, tool_named, tool_of, word_at};
 
 /// The tools, by the first word of a command line.
 #[derive(Clone, Copy, Debug, PartialEq, Eq)]
 pub enum Tool {
     Info,
     Cat,
+    Make,
 }
 
 /// The tool that the first word names.
@@ -27,6 +28,8 @@ fn tool_named(word: &str) -> Option<Tool>
         Some(Tool::Info)
     } else if word == "ntfscat" {
         Some(Tool::Cat)
+    } else if word == "ntfsmake" {
+        Some(Tool::Make)
     } else {
         None
     }
@@ -41,6 +44,7 @@ pub fn tool_name(tool: Tool) -> &'static str
     match tool {
         Tool::Info => "ntfsinfo",
         Tool::Cat => "ntfscat",
+        Tool::Make => "ntfsmake",
     }
 }
 
@@ -65,6 +69,34 @@ pub fn cat_image(words: &[String]) -> Option<(&str, &str)>
 {
     if words.len() == 4 && words[1].as_str() == "-i" && !is_option(words[3].as_str()) {
         Some((words[2].as_str(), words[3].as_str()))
+    } else {
+        None
+    }
+}
+
+/// The words of a command line of `ntfsmake`, where they are the tool's name, a name that is no option, and three more.
+#[derive(Clone, Copy)]
+pub struct MakeWords<'a> {
+    pub file: &'a str,
+    pub seed: &'a str,
+    pub clusters: &'a str,
+    pub cluster: &'a str,
+}
+
+#[tactic(auto, unfolding(crate::specs::Words::make_file))]
+pub fn make_file<'a>(words: &'a [String]) -> Option<MakeWords<'a>>
+    ensures file { option_map (λ told. told.file.now) result ≡ make_file (map string_bytes words.entry.now) }
+    ensures seed { IfSome result (λ told. told.seed.now ≡ word_at 2 (map string_bytes words.entry.now)) }
+    ensures clusters { IfSome result (λ told. told.clusters.now ≡ word_at 3 (map string_bytes words.entry.now)) }
+    ensures cluster { IfSome result (λ told. told.cluster.now ≡ word_at 4 (map string_bytes words.entry.now)) }
+{
+    if words.len() == 5 && !is_option(words[1].as_str()) {
+        Some(MakeWords {
+            file: words[1].as_str(),
+            seed: words[2].as_str(),
+            clusters: words[3].as_str(),
+            cluster: words[4].as_str(),
+        })
     } else {
         None
     }

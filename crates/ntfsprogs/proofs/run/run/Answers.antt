@@ -1,8 +1,7 @@
-use Rattle.std.proofs.Common.{sym, ap, ◌∙◌, map, string_bytes}
+use Rattle.std.proofs.Common.{ap, map, string_bytes}
 use Rattle.ntfsprogs.specs.Message.{message_of}
 use Rattle.ntfsprogs.specs.Reply.{reply}
 use Rattle.ntfsprogs.specs.Words.{tool_of}
-use Rattle.ntfsprogs.proofs.OutcomeLemmas.{files_shown}
 use Rattle.ntfsprogs.proofs.CatLemmas.{puts_stream}
 use Rattle.ntfsprogs.proofs.run.run.Goals as goal
 
@@ -20,7 +19,7 @@ returns-clause-line g c told settled = ap (message_of (map string_bytes c.args.w
 
 pub returns-clause-files : goal.returns-clause-files
 unfolding reply
-returns-clause-files g c told settled = ap (λ shelf. shelf.files) c.answer-status.ensures.seen ∙ sym (files_shown (tool_of (map string_bytes c.args.words.now)) _ _)
+returns-clause-files g c told settled = c.answer-status.ensures.files told settled
 
 pub returns-clause-front : goal.returns-clause-front
 unfolding reply

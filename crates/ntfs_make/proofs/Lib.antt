@@ -1,0 +1,13 @@
+pub mod ByteLemmas
+pub mod AttributeLemmas
+pub mod ShapeLemmas
+pub mod BlockLemmas
+pub mod RangeLemmas
+pub mod RunsLemmas
+pub mod WroteLemmas
+pub mod PlacedLemmas
+pub mod MadeLemmas
+pub mod LawLemmas
+pub mod BitmapLemmas
+pub mod ApartLemmas
+pub mod FrontLemmas

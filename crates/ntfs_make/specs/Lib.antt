@@ -1,0 +1,14 @@
+pub mod Shape
+pub mod Fields
+pub mod Table
+pub mod Parts
+pub mod Rows
+pub mod Names
+pub mod Streams
+pub mod Index
+pub mod Attributes
+pub mod Records
+pub mod Boot
+pub mod Contents
+pub mod Made
+pub mod Left

@@ -1,0 +1,16 @@
+use Rattle.std.proofs.Common.{sym, map, string_bytes}
+use Rattle.ntfs_base.specs.declared.meaning.UsageKind.TheVariants as usage
+use Rattle.ntfsprogs.specs.Make.{make_line_outcome}
+use Rattle.ntfsprogs.specs.declared.status.Status.TheVariants as status
+use Rattle.ntfsprogs.proofs.MakeLemmas.{answers_number, told-none}
+use Rattle.ntfsprogs.proofs.OutcomeLemmas.{answers_refused}
+use Rattle.ntfsprogs.proofs.make.make_line.Goals as goal
+
+pub returns-in_default-clause-answers : goal.returns-in_default-clause-answers
+unfolding make_line_outcome
+returns-in_default-clause-answers g c told = rw (sym c.in_default.ensures.file) (answers_refused (status.Usage usage.Line) _)
+
+pub returns-in_default-volume_of-clause-answers : goal.returns-in_default-volume_of-clause-answers
+returns-in_default-volume_of-clause-answers g c told =
+    answers_number (map string_bytes c.args.words.now) _ c.in-Some.told.file.now _ c.in-Some.ensures.file
+    (told-none (map string_bytes c.args.words.now) _ _ _ c.in-Some.ensures.seed c.in-Some.ensures.clusters c.in-Some.ensures.cluster c.in_default-volume_of.ensures.value)
