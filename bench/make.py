@@ -1,14 +1,14 @@
 #!/usr/bin/env python3
-"""Times `ntfsmake` for volumes of 65,536 and of 1,048,576 clusters of 4,096 bytes, as a ratio to writing as many bytes as the
-volume has that aren't zero, in the same run, and prints the peak memory of each.
+"""Times `ntfsmake` for volumes of 65,536 and of 1,048,576 clusters of 4,096 bytes, as a ratio to `cp` of a file with as many bytes
+as the volume has that aren't zero, in the same run, and prints the peak memory of each, where GNU `time` is installed.
 
 It builds the program with `rt run` in crates/ntfsprogs and makes the volumes in a temporary folder (name another one, on the disk
 that is to be measured, as the only argument). It takes the least time over its rounds. The repository is only read, but for the
 built program.
 """
 
-import os
 import pathlib
+import shutil
 import subprocess
 import sys
 import tempfile
@@ -30,32 +30,23 @@ def bytes_that_are_not_zero(path):
     return count
 
 
-def least_write(path, count):
+def least(words, path):
     best = None
-    piece = b"\xa5" * PIECE
     for _ in range(ROUNDS):
         path.unlink(missing_ok=True)
         start = time.perf_counter()
-        with open(path, "wb", buffering=0) as file:
-            for place in range(0, count, PIECE):
-                file.write(piece[: min(PIECE, count - place)])
+        subprocess.run([str(word) for word in words], check=True)
         spent = time.perf_counter() - start
         best = spent if best is None else min(best, spent)
     return best
 
 
-def made(program, path, clusters):
-    best, memory = None, 0
-    for _ in range(ROUNDS):
-        path.unlink(missing_ok=True)
-        start = time.perf_counter()
-        child = subprocess.Popen([str(program), "ntfsmake", str(path), "0", str(clusters), str(CLUSTER)])
-        _, status, used = os.wait4(child.pid, 0)
-        spent = time.perf_counter() - start
-        assert status == 0
-        best = spent if best is None else min(best, spent)
-        memory = max(memory, used.ru_maxrss)
-    return best, memory
+def peak_memory(words, path):
+    if shutil.which("time") is None:
+        return "not measured"
+    path.unlink(missing_ok=True)
+    told = subprocess.run(["time", "-f", "%M", *(str(word) for word in words)], check=True, stderr=subprocess.PIPE)
+    return told.stderr.decode().split()[-1] + " KiB"
 
 
 def main():
@@ -63,13 +54,16 @@ def main():
     program = CRATE / "out" / "ntfsprogs"
     with tempfile.TemporaryDirectory(dir=sys.argv[1] if len(sys.argv) > 1 else None) as folder:
         folder = pathlib.Path(folder)
+        volume, plain, copy = folder / "volume", folder / "plain", folder / "copy"
         for clusters in (65_536, 1_048_576):
-            spent, memory = made(program, folder / "volume", clusters)
-            count = bytes_that_are_not_zero(folder / "volume")
-            plain = least_write(folder / "plain", count)
+            words = [program, "ntfsmake", volume, 0, clusters, CLUSTER]
+            spent = least(words, volume)
+            count = bytes_that_are_not_zero(volume)
+            plain.write_bytes(b"\xa5" * count)
+            copied = least(["cp", plain, copy], copy)
             print(
-                f"{clusters} clusters: {spent:.4f} s, {count} bytes that aren't zero, ratio to writing as many "
-                f"{spent / plain:.2f}, peak memory {memory} KiB"
+                f"{clusters} clusters: {spent:.4f} s, {count} bytes that aren't zero, ratio to copying as many {spent / copied:.2f}, "
+                f"peak memory {peak_memory(words, volume)}"
             )
 
 

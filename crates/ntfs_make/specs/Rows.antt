@@ -5,12 +5,12 @@ use Rattle.ntfs_make.specs.declared.table.Lowest.TheVariants.{Zero, Behind}
 use Rattle.ntfs_make.specs.declared.table.Size.TheVariants.{Bytes, Clusters, Over, Bitmap, Volume}
 use Rattle.ntfs_make.specs.declared.table.Size.TheVariants as a_size
 use Rattle.ntfs_make.specs.declared.table.Cells.TheVariants.{Nothing, Part, Holes, BeforeBad, Bad, BehindBad}
-use Rattle.ntfs_make.specs.Table.{RowValue, name, standard, file_name, value, list, listed, root, stream, whole, row, file, unused, Child, Empty, One}
+use Rattle.ntfs_make.specs.Table.{RowValue, name, standard, file_name, value, list, listed, root, stream, whole, row_with, file, unused, Child, Empty, One}
 
 -- the files of every volume, and the records that they leave free
 unfoldable pub system : List RowValue
 system =
-    row 0 1 None
+    row_with 0 1 None
     (standard
     ∷ list (listed 0x10 Zero 0 0 ∷ listed 0x30 Zero 0 2 ∷ listed 0x80 Zero 0 3 ∷ listed 0x80 (Behind 1) 28 0 ∷ listed 0xB0 Zero 0 4 ∷ [])
     ∷ file_name 5 3 (codes "$MFT")
@@ -21,7 +21,7 @@ system =
     ∷ file 2 (codes "$LogFile") (whole (Part 3) (Bytes 65536))
     ∷ file 3 (codes "$Volume") (value 0x70 [] (0 ∷ 0 ∷ 0 ∷ 0 ∷ 0 ∷ 0 ∷ 0 ∷ 0 ∷ 3 ∷ 1 ∷ 0 ∷ 0 ∷ []))
     ∷ file 4 (codes "$AttrDef") (value 0x80 [] [])
-    ∷ row 5 3 None
+    ∷ row_with 5 3 None
     (standard
     ∷ file_name 5 3 (codes ".")
     ∷ root Child
@@ -30,7 +30,7 @@ system =
     ∷ [])
     ∷ file 6 (codes "$Bitmap") (whole (Part 4) Bitmap)
     ∷ file 7 (codes "$Boot") (whole (Part 0) (Bytes 8192))
-    ∷ row 8 1 None
+    ∷ row_with 8 1 None
     (standard
     ∷ file_name 5 3 (codes "$BadClus")
     ∷ value 0x80 [] []
@@ -38,7 +38,7 @@ system =
     ∷ [])
     ∷ file 9 (codes "$Secure") (value 0x80 [] [])
     ∷ file 10 (codes "$UpCase") (whole (Part 5) (Bytes 131072))
-    ∷ row 11 3 None
+    ∷ row_with 11 3 None
     (standard
     ∷ file_name 5 3 (codes "$Extend")
     ∷ root Empty
@@ -57,42 +57,42 @@ kinds =
     ∷ file 18 (codes "sparse.bin") (stream 0x80 [] (record { flags = 0x8000; unit = 0; held = (Some (a_size.Part 8)); before = Nothing; first = (Holes 2); second = (Part 8); third = (Holes 1); behind = Nothing; size = (Clusters 4); initialised = (Clusters 4) }))
     ∷ file 19 (codes "half.bin") (stream 0x80 [] (record { flags = 0x0000; unit = 0; held = None; before = Nothing; first = (Part 9); second = Nothing; third = Nothing; behind = Nothing; size = (Over 5); initialised = (Bytes 10) }))
     ∷ file 20 (codes "packed.bin") (stream 0x80 [] (record { flags = 0x0001; unit = 4; held = (Some (a_size.Part 10)); before = Nothing; first = (Part 10); second = (Holes 12); third = Nothing; behind = Nothing; size = (Clusters 16); initialised = (Clusters 16) }))
-    ∷ row 21 1 None
+    ∷ row_with 21 1 None
     (standard
     ∷ list (listed 0x10 Zero 21 0 ∷ listed 0x30 Zero 21 2 ∷ listed 0x80 Zero 21 3 ∷ listed 0x80 (Behind 11) 22 0 ∷ [])
     ∷ file_name 5 3 (codes "listed.bin")
     ∷ stream 0x80 [] (record { flags = 0x0000; unit = 0; held = None; before = Nothing; first = (Part 11); second = Nothing; third = Nothing; behind = (Part 12); size = (Clusters 2); initialised = (Clusters 2) })
     ∷ [])
-    ∷ row 22 1 (Some 21)
+    ∷ row_with 22 1 (Some 21)
     (stream 0x80 [] (record { flags = 0x0000; unit = 0; held = None; before = (Part 11); first = (Part 12); second = Nothing; third = Nothing; behind = Nothing; size = (Bytes 0); initialised = (Bytes 0) })
     ∷ [])
-    ∷ row 23 3 None
+    ∷ row_with 23 3 None
     (standard
     ∷ file_name 5 3 (codes "Dir")
     ∷ root (One 24 (name 23 3 (codes "inner.txt")))
     ∷ [])
-    ∷ row 24 1 None
+    ∷ row_with 24 1 None
     (standard
     ∷ file_name 23 3 (codes "inner.txt")
     ∷ value 0x80 [] (codes "inner" ++ 10 ∷ [])
     ∷ [])
-    ∷ row 25 1 None
+    ∷ row_with 25 1 None
     (standard
     ∷ file_name 5 1 (codes "long name.txt")
     ∷ file_name 5 2 (codes "LONGNA~1.TXT")
     ∷ value 0x80 [] []
     ∷ [])
-    ∷ row 26 1 None
+    ∷ row_with 26 1 None
     (standard
     ∷ file_name 5 0 (codes "A.txt")
     ∷ value 0x80 [] (codes "A" ++ 10 ∷ [])
     ∷ [])
-    ∷ row 27 1 None
+    ∷ row_with 27 1 None
     (standard
     ∷ file_name 5 0 (codes "a.txt")
     ∷ value 0x80 [] (codes "a" ++ 10 ∷ [])
     ∷ [])
-    ∷ row 28 1 (Some 0)
+    ∷ row_with 28 1 (Some 0)
     (stream 0x80 [] (record { flags = 0x0000; unit = 0; held = None; before = (Part 1); first = (Part 7); second = Nothing; third = Nothing; behind = Nothing; size = (Bytes 0); initialised = (Bytes 0) })
     ∷ [])
     ∷ unused 29

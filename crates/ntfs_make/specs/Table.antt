@@ -121,13 +121,13 @@ whole cells size = stream 0x80 [] (record {
   initialised = size;
 })
 
-abbrev pub row : ℕ → ℕ → Option ℕ → List AttributeValue → RowValue
-row number flags base attributes = record { number = number; flags = flags; base = base; attributes = attributes }
+abbrev pub row_with : ℕ → ℕ → Option ℕ → List AttributeValue → RowValue
+row_with number flags base attributes = record { number = number; flags = flags; base = base; attributes = attributes }
 
 -- a file in the root, whose name is of both namespaces
 abbrev pub file : ℕ → List ℕ → AttributeValue → RowValue
-file number letters contents = row number 1 None (standard ∷ file_name 5 3 letters ∷ contents ∷ [])
+file number letters contents = row_with number 1 None (standard ∷ file_name 5 3 letters ∷ contents ∷ [])
 
 -- a record that is not in use
 abbrev pub unused : ℕ → RowValue
-unused number = row number 0 None []
+unused number = row_with number 0 None []
