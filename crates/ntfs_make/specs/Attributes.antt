@@ -30,7 +30,7 @@ listed_bytes placed listed =
     ∷ U8 0
     ∷ U8 26
     ∷ U64 (lowest_at placed listed.lowest)
-    ∷ U64 (reference listed.«record»)
+    ∷ U64 (reference listed.number)
     ∷ U16 listed.instance
     ∷ a_field.Zeros 6
     ∷ [])

@@ -79,7 +79,7 @@ abbrev pub row_of : Row → RowValue
 row_of row = record { number = row.number; flags = row.flags; base = row.base; attributes = map attribute_of row.attributes.now }
 
 abbrev pub indexed_of : Indexed → IndexedValue
-indexed_of indexed = record { number = indexed.«record»; name = name_of indexed.name }
+indexed_of indexed = record { number = indexed.number; name = name_of indexed.name }
 
 -- the forms of rows
 abbrev pub name : ℕ → ℕ → List ℕ → NameValue
@@ -98,7 +98,7 @@ abbrev pub list : List Listed → AttributeValue
 list entries = record { kind = 0x20; name = []; body = Entries entries }
 
 abbrev pub listed : ℕ → Lowest → ℕ → ℕ → Listed
-listed kind lowest number instance = record { kind = kind; lowest = lowest; «record» = number; instance = instance }
+listed kind lowest number instance = record { kind = kind; lowest = lowest; number = number; instance = instance }
 
 abbrev pub root : RootValue → AttributeValue
 root node = record { kind = 0x90; name = 0x24 ∷ 0x49 ∷ 0x33 ∷ 0x30 ∷ []; body = Rooted node }

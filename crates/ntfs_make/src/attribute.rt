@@ -37,7 +37,7 @@ fn put_listed(out: &mut Vec<u8>, placed: &[Placed], listed: &Listed) -> Result<(
             Field::U8(0),
             Field::U8(26),
             Field::U64(lowest_at(placed, listed.lowest)),
-            Field::U64(reference(listed.record)),
+            Field::U64(reference(listed.number)),
             Field::U16(u64::from(listed.instance)),
             Field::Zeros(6),
         ],

@@ -182,7 +182,7 @@ fn entries_of(alloc: Global, names: &[Indexed]) -> Result<Vec<u8>, AllocError>
 {
     let mut entries = Vec::new(alloc);
     'names: for indexed in names {
-        put_entry(alloc, &mut entries, indexed.record, &indexed.name)?;
+        put_entry(alloc, &mut entries, indexed.number, &indexed.name)?;
     }
     put_end(&mut entries)?;
     Ok(entries)

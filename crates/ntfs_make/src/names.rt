@@ -8,7 +8,7 @@ use crate::table::{FileName, Indexed};
 
 macro_rules! indexed {
     ($record:expr, $space:expr, $letters:expr) => {
-        Indexed { record: $record, name: FileName { parent: 5, space: $space, letters: $letters } }
+        Indexed { number: $record, name: FileName { parent: 5, space: $space, letters: $letters } }
     };
 }
 

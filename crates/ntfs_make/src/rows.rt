@@ -36,7 +36,7 @@ macro_rules! list {
 
 macro_rules! listed {
     ($kind:expr, $lowest:expr, $record:expr, $instance:expr) => {
-        Listed { kind: $kind, lowest: $lowest, record: $record, instance: $instance }
+        Listed { kind: $kind, lowest: $lowest, number: $record, instance: $instance }
     };
 }
 

@@ -94,7 +94,7 @@ pub struct FileName {
 pub struct Listed {
     pub kind: u32,
     pub lowest: Lowest,
-    pub record: u32,
+    pub number: u32,
     pub instance: u16,
 }
 
@@ -168,6 +168,6 @@ pub enum Size {
 /// A name of the root's index, and the record that has it.
 #[derive(Clone, Copy)]
 pub struct Indexed {
-    pub record: u32,
+    pub number: u32,
     pub name: FileName,
 }

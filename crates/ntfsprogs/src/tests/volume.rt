@@ -132,9 +132,9 @@ pub fn volume(
 }
 
 /// The volume with one record besides record 0.
-pub fn volume_of(alloc: Global, number: usize, record: Vec<u8>) -> Result<Vec<u8>, AllocError> {
+pub fn volume_of(alloc: Global, number: usize, bytes: Vec<u8>) -> Result<Vec<u8>, AllocError> {
     let mut records = Vec::new(alloc);
-    records.push((number, record))?;
+    records.push((number, bytes))?;
     volume(alloc, &first_record(alloc)?, &records)
 }
 
