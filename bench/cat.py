@@ -13,16 +13,13 @@ import struct
 import subprocess
 import sys
 import tempfile
-import time
+
+from measure import built_program, least
 
 CLUSTER = 4096
 RECORD = 1024
 STREAM = 256 << 20
 FIRST = 16
-ROUNDS = 5
-
-TOP = pathlib.Path(__file__).resolve().parent.parent
-CRATE = TOP / "crates" / "ntfsprogs"
 
 
 def runs(clusters, size, pairs):
@@ -62,17 +59,6 @@ def make(image, content):
         shutil.copyfileobj(bytes_of, file, 1 << 20)
 
 
-def least(words, out):
-    best = None
-    for _ in range(ROUNDS):
-        with open(out, "wb") as file:
-            start = time.perf_counter()
-            subprocess.run(words, stdout=file, check=True)
-            spent = time.perf_counter() - start
-        best = spent if best is None else min(best, spent)
-    return best
-
-
 def calls(words):
     if shutil.which("strace") is None:
         return "not counted"
@@ -83,8 +69,7 @@ def calls(words):
 
 
 def main():
-    subprocess.run(["rt", "run", "--", "ntfsinfo", "-m", "data/tiny.img"], cwd=CRATE, check=True, stdout=subprocess.DEVNULL)
-    program = CRATE / "out" / "ntfsprogs"
+    program = built_program()
     with tempfile.TemporaryDirectory(dir=sys.argv[1] if len(sys.argv) > 1 else None) as folder:
         folder = pathlib.Path(folder)
         content, image, out = folder / "content", folder / "image", folder / "out"
@@ -99,7 +84,7 @@ def main():
         subprocess.run(["cmp", content, out], check=True)
         plain = {}
         for name, words in tools.items():
-            file, nothing = least(words, out), least(words, "/dev/null")
+            file, nothing = least(words, out), least(words)
             plain.setdefault("file", file)
             plain.setdefault("nothing", nothing)
             print(

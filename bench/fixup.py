@@ -5,11 +5,7 @@ It writes a program over the crates of this repository into a temporary folder, 
 least time of each step over its rounds. The repository is only read.
 """
 
-import pathlib
-import re
-import shutil
-import subprocess
-import tempfile
+from measure import rounds_of
 
 PROGRAM = """\
 //! Times a copy of an image, its unfixing, and its unfixing and refixing.
@@ -114,24 +110,8 @@ fn main(rt: HostRuntime) -> io::Result<()> {
 
 
 def main():
-    root = pathlib.Path(__file__).resolve().parent.parent
-    with tempfile.TemporaryDirectory() as folder:
-        top = pathlib.Path(folder)
-        for name in ("ntfs_base", "ntfs_fixup"):
-            shutil.copytree(root / "crates" / name, top / "crates" / name, ignore=shutil.ignore_patterns("must-fail", "out"))
-        source = top / "crates" / "bench_fixup" / "src"
-        source.mkdir(parents=True)
-        (source / "main.rt").write_text(PROGRAM)
-        (top / "crates.txt").write_text(
-            "ntfs_base: byteorder\nntfs_fixup: ntfs_base byteorder\nbench_fixup: ntfs_fixup byteorder\n"
-        )
-        done = subprocess.run(["rt", "run"], cwd=source.parent, capture_output=True, text=True)
-    rounds = re.findall(r"^(\d+) (\d+) (\d+) (true|false)$", done.stdout, re.MULTILINE)
-    if not rounds:
-        raise SystemExit(done.stdout + done.stderr)
-    if any(whole != "true" for *_, whole in rounds):
-        raise SystemExit("a record was refused")
-    copied, unfixed, turned = (min(int(line[i]) for line in rounds) for i in range(3))
+    rounds = rounds_of(("ntfs_base", "ntfs_fixup"), "bench_fixup", PROGRAM)
+    copied, unfixed, turned = (min(line[i] for line in rounds) for i in range(3))
     print(f"64 MiB in records of 1,024 bytes, least of {len(rounds)} rounds")
     print(f"copy               {copied:7} us")
     print(f"unfix              {unfixed:7} us  {unfixed / copied:.2f} copies")
@@ -139,4 +119,5 @@ def main():
     print(f"refix (difference) {turned - unfixed:7} us  {(turned - unfixed) / copied:.2f} copies")
 
 
-main()
+if __name__ == "__main__":
+    main()

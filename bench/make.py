@@ -12,14 +12,11 @@ import shutil
 import subprocess
 import sys
 import tempfile
-import time
+
+from measure import built_program, least
 
 CLUSTER = 4096
-ROUNDS = 5
 PIECE = 1 << 20
-
-TOP = pathlib.Path(__file__).resolve().parent.parent
-CRATE = TOP / "crates" / "ntfsprogs"
 
 
 def bytes_that_are_not_zero(path):
@@ -28,17 +25,6 @@ def bytes_that_are_not_zero(path):
         while piece := file.read(PIECE):
             count += len(piece) - piece.count(0)
     return count
-
-
-def least(words, path):
-    best = None
-    for _ in range(ROUNDS):
-        path.unlink(missing_ok=True)
-        start = time.perf_counter()
-        subprocess.run([str(word) for word in words], check=True)
-        spent = time.perf_counter() - start
-        best = spent if best is None else min(best, spent)
-    return best
 
 
 def peak_memory(words, path):
@@ -50,17 +36,16 @@ def peak_memory(words, path):
 
 
 def main():
-    subprocess.run(["rt", "run", "--", "ntfsinfo", "-m", "data/tiny.img"], cwd=CRATE, check=True, stdout=subprocess.DEVNULL)
-    program = CRATE / "out" / "ntfsprogs"
+    program = built_program()
     with tempfile.TemporaryDirectory(dir=sys.argv[1] if len(sys.argv) > 1 else None) as folder:
         folder = pathlib.Path(folder)
         volume, plain, copy = folder / "volume", folder / "plain", folder / "copy"
         for clusters in (65_536, 1_048_576):
             words = [program, "ntfsmake", volume, 0, clusters, CLUSTER]
-            spent = least(words, volume)
+            spent = least(words, ready=lambda: volume.unlink(missing_ok=True))
             count = bytes_that_are_not_zero(volume)
             plain.write_bytes(b"\xa5" * count)
-            copied = least(["cp", plain, copy], copy)
+            copied = least(["cp", plain, copy], ready=lambda: copy.unlink(missing_ok=True))
             print(
                 f"{clusters} clusters: {spent:.4f} s, {count} bytes that aren't zero, ratio to copying as many {spent / copied:.2f}, "
                 f"peak memory {peak_memory(words, volume)}"

@@ -6,11 +6,7 @@ least time of each sort over its rounds: once over names that differ early, and 
 same. The repository is only read.
 """
 
-import pathlib
-import re
-import shutil
-import subprocess
-import tempfile
+from measure import rounds_of
 
 PROGRAM = """\
 //! Times sorting names by the order of a volume, and by their bytes.
@@ -122,26 +118,10 @@ fn main(rt: HostRuntime) -> io::Result<()> {
 
 
 def main():
-    root = pathlib.Path(__file__).resolve().parent.parent
-    with tempfile.TemporaryDirectory() as folder:
-        top = pathlib.Path(folder)
-        for name in ("ntfs_base", "ntfs_upcase"):
-            shutil.copytree(root / "crates" / name, top / "crates" / name, ignore=shutil.ignore_patterns("must-fail", "out"))
-        source = top / "crates" / "bench_upcase" / "src"
-        source.mkdir(parents=True)
-        (source / "main.rt").write_text(PROGRAM)
-        needs = {line.split(":")[0]: line for line in (root / "crates.txt").read_text().splitlines() if ":" in line}
-        lines = [needs["ntfs_base"], needs["ntfs_upcase"], "bench_upcase: ntfs_upcase"]
-        (top / "crates.txt").write_text("\n".join(lines) + "\n")
-        done = subprocess.run(["rt", "run"], cwd=source.parent, capture_output=True, text=True)
-    rounds = re.findall(r"^(\d+) (\d+) (\d+) (true|false)$", done.stdout, re.MULTILINE)
-    if not rounds:
-        raise SystemExit(done.stdout + done.stderr)
-    if any(ordered != "true" for *_, ordered in rounds):
-        raise SystemExit("a list was not in order")
-    for common in ("0", "14"):
+    rounds = rounds_of(("ntfs_base", "ntfs_upcase"), "bench_upcase", PROGRAM)
+    for common in (0, 14):
         lines = [line for line in rounds if line[0] == common]
-        plain, collated = (min(int(line[i]) for line in lines) for i in (1, 2))
+        plain, collated = (min(line[i] for line in lines) for i in (1, 2))
         print(f"100,000 names of 20 units, {common} in common, least of {len(lines)} rounds")
         print(f"by bytes    {plain:7} us")
         print(f"by collate  {collated:7} us  {collated / plain:.2f} times")

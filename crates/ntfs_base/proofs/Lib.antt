@@ -5,3 +5,5 @@ pub mod StreamLemmas
 pub mod MemoryLemmas
 pub mod ShelfLemmas
 pub mod AttachLemmas
+pub mod WroteLemmas
+pub mod AppliedLemmas

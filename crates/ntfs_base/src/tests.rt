@@ -4,6 +4,7 @@ ghost use Rattle.ntfs_base.specs.Shelf.{has_name};
 
 use super::*;
 use std::alloc::{AllocError, Global};
+use std::process::Abort;
 use std::test::Fail;
 
 fn bytes(alloc: Global, text: &[u8]) -> Result<Vec<u8>, AllocError> {
@@ -383,4 +384,69 @@ fn a_line_is_built_from_texts_and_numbers(rt: HostRuntime) {
     line.push(b" ");
     line.push_hex(&[0x0A, 0xFF]);
     assert_eq!(rt; line.as_bytes(), b"a 18446744073709551615 0aff".as_slice());
+}
+
+/// Makes files and appends to them: whether all was done. Where memory is wanting, all is as it was. `tools/refused_memory.py`
+/// has each allocation of it refused in turn.
+fn growth_is_whole(rt: &impl Abort, host: &HostRuntime) -> Result<bool, Fail> {
+    let alloc = host.alloc();
+    let mut shelf = MemShelf::new(alloc);
+    let Ok(text) = bytes(alloc, b"one") else {
+        return Ok(false);
+    };
+    if shelf.add("a", text).is_err() {
+        assert_eq!(rt; shelf.content("a"), None);
+        return Ok(false);
+    }
+    let mut is_whole = true;
+    for (name, must_be_new, before) in [("b", true, None), ("a", false, Some(b"one".as_slice()))] {
+        assert!(rt; shelf.attached.is_empty());
+        let left = match make(&mut shelf, name, must_be_new, b"xy") {
+            Ok(Ok(())) => Some(b"xy".as_slice()),
+            Ok(Err(fault)) => {
+                is_whole = false;
+                assert_eq!(rt; fault, PutFault::NoMemory);
+                Some(b"".as_slice())
+            }
+            Err(fault) => {
+                is_whole = false;
+                assert_eq!(rt; fault, ShelfFault::NoMemory);
+                before
+            }
+        };
+        assert_eq!(rt; shelf.content(name), left);
+        assert!(rt; shelf.attached.is_empty());
+    }
+    assert_eq!(rt;
+        shelf.faults,
+        Faults {
+            reads: 0,
+            writes: 0
+        }
+    );
+    Ok(is_whole)
+}
+
+/// Puts bytes on a sink: whether it took them. Where memory is wanting, it took none and counts a want.
+fn put_is_whole(rt: &impl Abort, host: &HostRuntime) -> Result<bool, Fail> {
+    let mut sink = MemSink::new(host.alloc());
+    match put(&mut sink, b"ab") {
+        Ok(()) => {
+            assert_eq!(rt; sink.content.as_slice(), b"ab".as_slice());
+            Ok(true)
+        }
+        Err(fault) => {
+            assert_eq!(rt; fault, PutFault::NoMemory);
+            assert_eq!(rt; sink.content.len(), 0);
+            assert_eq!(rt; sink.faults.wants, 1);
+            Ok(false)
+        }
+    }
+}
+
+#[test]
+fn with_ample_memory_all_is_done(rt: HostRuntime) -> Result<(), Fail> {
+    assert!(rt; growth_is_whole(&rt, &rt)?);
+    assert!(rt; put_is_whole(&rt, &rt)?);
+    Ok(())
 }

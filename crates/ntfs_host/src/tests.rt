@@ -8,6 +8,7 @@ use ntfs_base::{
 use std::alloc::Allocator;
 use std::fs::{Files, Metadata, OpenOptions};
 use std::io::{ErrorKind, Read, Write};
+use std::process::Abort;
 use std::test::Fail;
 use std::{fs, io};
 
@@ -128,6 +129,16 @@ fn make_any<S: Shelf>(
     let appended = append_any(&mut file, bytes);
     shelf.release(file);
     Ok(appended)
+}
+
+/// The length of a file, which is attached and released.
+fn len_any<S: Shelf>(shelf: &mut S, name: &str) -> Result<u64, ShelfFault>
+    requires { has_name name.now (S.seen shelf.old).attached ≡ false }
+{
+    let file = shelf.attach(name)?;
+    let len = file.len();
+    shelf.release(file);
+    Ok(len)
 }
 
 fn sync_any<I: Image>(image: &mut I) -> Result<(), Failed>
@@ -354,5 +365,33 @@ fn a_stream_that_fails_is_counted(rt: HostRuntime) -> Result<(), Fail> {
     let mut input = StdInput::new(Broken);
     assert_eq!(rt; input.take(&mut [0u8; 16]), Err(Failed));
     assert_eq!(rt; input.faults, 1);
+    Ok(())
+}
+
+/// Attaches and makes a file of three bytes, and makes an output: whether all was done. Where it wasn't, memory was wanting, no
+/// name stays attached and no fault is counted. `tools/refused_memory.py` has each allocation of it refused in turn.
+fn files_are_whole(rt: &impl Abort, host: &HostRuntime) -> Result<bool, Fail> {
+    let name = "host_poor.img";
+    if fs::write(host, name, b"abc".as_slice()).is_err() {
+        return Ok(false);
+    }
+    let is_made = StdOutput::new(host.alloc(), host.stdout()).is_ok();
+    let mut shelf = DiskShelf::new(host.alloc(), host);
+    assert!(rt; shelf.attached.is_empty());
+    let attached = len_any(&mut shelf, name);
+    assert!(rt; attached == Ok(3) || attached == Err(ShelfFault::NoMemory));
+    assert!(rt; shelf.attached.is_empty());
+    let created = make_any(&mut shelf, name, false, b"");
+    assert!(rt; created == Ok(Ok(())) || created == Err(ShelfFault::NoMemory));
+    assert!(rt; shelf.attached.is_empty());
+    assert_eq!(rt; shelf.faults.reads, 0);
+    assert_eq!(rt; shelf.faults.writes, 0);
+    let _ = fs::remove_file(host, name);
+    Ok(is_made && attached.is_ok() && created.is_ok())
+}
+
+#[test]
+fn with_ample_memory_files_are_attached_and_made(rt: HostRuntime) -> Result<(), Fail> {
+    assert!(rt; files_are_whole(&rt, &rt)?);
     Ok(())
 }

@@ -7,7 +7,8 @@ use Rattle.ntfs_make.specs.declared.table.Placed.{Placed}
 use Rattle.ntfs_make.specs.Shape.{IsShape, shape_of, sectors}
 use Rattle.ntfs_make.specs.Parts.{parts, length_of, placed_at, up, down, placed}
 use Rattle.ntfs_make.specs.Contents.{content_of}
-use Rattle.ntfs_make.specs.Made.{part_write, copy_write, writes_of, made_writes, IsWithin, IsApart, IsApartFrom, AreApart}
+use Rattle.ntfs_base.specs.Writes.{IsApart, IsApartFrom, AreApart}
+use Rattle.ntfs_make.specs.Made.{part_write, copy_write, writes_of, made_writes, IsWithin}
 use Rattle.ntfs_make.proofs.ShapeLemmas.{bounds}
 use Rattle.ntfs_make.proofs.PlacedLemmas.{AllPlaced, all-placed, total, total-fits}
 

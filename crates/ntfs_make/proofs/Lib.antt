@@ -4,7 +4,6 @@ pub mod ShapeLemmas
 pub mod BlockLemmas
 pub mod RangeLemmas
 pub mod RunsLemmas
-pub mod WroteLemmas
 pub mod PlacedLemmas
 pub mod MadeLemmas
 pub mod LawLemmas

@@ -7,7 +7,7 @@ use Rattle.ntfs_make.specs.declared.table.Placed.{Placed}
 use Rattle.ntfs_make.specs.Shape.{shape_of}
 use Rattle.ntfs_make.specs.Parts.{placed}
 use Rattle.ntfs_make.specs.Made.{part_write, copy_write, writes_of, made_writes}
-use Rattle.ntfs_make.proofs.WroteLemmas.{wrote-then, wrote-cut}
+use Rattle.ntfs_base.proofs.WroteLemmas.{wrote-then, wrote-cut}
 
 writes-are : (seed clusters cluster : ℕ) (shape : Shape) (all : List Placed) → shape ≡ shape_of seed clusters cluster → all ≡ placed shape → map (part_write shape all) all ++ copy_write shape all ∷ [] ≡ made_writes seed clusters cluster
 unfolding made_writes writes_of

@@ -1,7 +1,7 @@
 -- The generated volume: its bytes, and the writes that make it from zeros. The words are ours.
-use Rattle.std.specs.Prelude.{◌⊎◌, ◌≡◌, ◌≤◌, ◌<◌, ◌+◌, ◌-◌, ◌*◌, ◌&&◌, ℕ, List, [], ◌∷◌, ◌++◌, length, map, slice_index, slice_index_or, nat_le, nat_lt, IfErr, Result, if◌then◌else◌}
+use Rattle.std.specs.Prelude.{◌≡◌, ◌≤◌, ◌<◌, ◌+◌, ◌*◌, ℕ, List, [], ◌∷◌, ◌++◌, length, map, slice_index_or, IfErr, Result}
 use Rattle.std.specs.List.{range_with_len}
-use Rattle.ntfs_base.specs.Writes.{Write}
+use Rattle.ntfs_base.specs.Writes.{Write, byte_from}
 use Rattle.ntfs_base.specs.Causes.{Rose}
 use Rattle.ntfs_base.specs.declared.fault.Faults.{Faults}
 use Rattle.ntfs_make.specs.declared.fault.MakeFault.{MakeFault}
@@ -28,16 +28,8 @@ writes_of shape = map (part_write shape (placed shape)) (placed shape) ++ copy_w
 unfoldable pub made_writes : ℕ → ℕ → ℕ → List Write
 made_writes seed clusters cluster = writes_of (shape_of seed clusters cluster)
 
--- the byte at a place: that of the last piece that has it, and otherwise the given one. No two pieces of a volume share a byte
--- (`AreApart`, below), so their order plays no part
-abbrev pub byte_from : List Write → ℕ → ℕ → ℕ
-byte_from [] place byte = byte
-byte_from (piece ∷ pieces) place byte =
-    byte_from pieces place
-    (if nat_le piece.place place && nat_lt (place - piece.place) (length piece.bytes)
-    then slice_index piece.bytes (place - piece.place) else byte)
-
--- the volume: the bytes of its pieces at their places, and zeros elsewhere
+-- the volume: the bytes of its pieces at their places, and zeros elsewhere. No two pieces share a byte, as the law
+-- `pieces_are_apart` says, so their order plays no part
 unfoldable pub made : ℕ → ℕ → ℕ → List ℕ
 made seed clusters cluster =
     map (λ place. byte_from (made_writes seed clusters cluster) place 0) (range_with_len 0 ((clusters + 1) * cluster))
@@ -62,17 +54,3 @@ pub record MakeCause {T : Type 0} (old new : Faults) (result : Result T MakeFaul
   pub reads : old.reads ≤ new.reads
   pub writes : old.writes ≤ new.writes
   pub cause : IfErr result (λ fault. FaultCause fault old new)
-
--- two pieces of which one ends before the other begins
-abbrev pub IsApart : Write → Write → Type 0
-IsApart one other = (one.place + length one.bytes ≤ other.place) ⊎ (other.place + length other.bytes ≤ one.place)
-
--- a piece and pieces of which none shares a byte with it
-abbrev pub IsApartFrom : Write → List Write → Type 0
-IsApartFrom one [] = Unit {0}
-IsApartFrom one (other ∷ others) = IsApart one other × IsApartFrom one others
-
--- pieces of which no two share a byte
-abbrev pub AreApart : List Write → Type 0
-AreApart [] = Unit {0}
-AreApart (piece ∷ pieces) = IsApartFrom piece pieces × AreApart pieces

@@ -2,7 +2,8 @@
 
 ghost use Rattle.std.specs.Prelude.{ℕ};
 ghost use Rattle.ntfs_make.specs.Shape.{IsShape, shape_of};
-ghost use Rattle.ntfs_make.specs.Made.{AreApart, made_writes};
+ghost use Rattle.ntfs_base.specs.Writes.{AreApart};
+ghost use Rattle.ntfs_make.specs.Made.{made_writes};
 
 /// No two pieces of a volume share a byte, so each byte is that of the one piece that has it.
 pub fn pieces_are_apart()

@@ -3,7 +3,6 @@
 ghost use Rattle.std.specs.Prelude.{◌≡◌, ◌+◌, ◌*◌, [], IfOk, replicate};
 ghost use Rattle.ntfs_base.specs.Memory.{seen_of};
 
-use crate::field::put_zeros;
 use crate::{MakeFault, is_in_range, make};
 use ntfs_base::{Leaves, MemImage};
 use std::alloc::{AllocError, Global};
@@ -14,9 +13,7 @@ use std::test::Fail;
 fn zeros(alloc: Global, count: usize) -> Result<Vec<u8>, AllocError>
     ensures { IfOk result (λ bytes. bytes.items ≡ replicate count 0) }
 {
-    let mut bytes = Vec::with_capacity(alloc, count)?;
-    put_zeros(&mut bytes, count)?;
-    Ok(bytes)
+    vec![in alloc; 0; count]
 }
 
 // An image of zeros for so many clusters of so many bytes.
@@ -263,5 +260,29 @@ fn the_range_ends_where_it_is_said(rt: HostRuntime) -> Result<(), Fail> {
     ] {
         assert_eq!(rt; is_in_range(clusters, cluster), is, "{clusters} {cluster}");
     }
+    Ok(())
+}
+
+/// Makes a volume: whether it was made. Where it wasn't, memory was wanting. `tools/refused_memory.py` has each allocation of it
+/// refused in turn.
+fn making_is_whole(rt: &impl Abort, host: &HostRuntime) -> Result<bool, Fail> {
+    let alloc = host.alloc();
+    let Ok(mut image) = blank(alloc, 2048, 512) else {
+        return Ok(false);
+    };
+    match attempt(rt, alloc, &mut image, 6, 2048, 512) {
+        Ok(()) => Ok(true),
+        Err(fault) => {
+            assert_eq!(rt; fault, MakeFault::NoMemory);
+            assert_eq!(rt; image.inside.bytes.len(), 1_049_088);
+            assert_eq!(rt; image.inside.faults.writes, 0);
+            Ok(false)
+        }
+    }
+}
+
+#[test]
+fn with_ample_memory_a_volume_is_made(rt: HostRuntime) -> Result<(), Fail> {
+    assert!(rt; making_is_whole(&rt, &rt)?);
     Ok(())
 }

@@ -9,3 +9,4 @@ pub mod JoinLemmas
 pub mod WriterLemmas
 pub mod LawLemmas
 pub mod CauseLemmas
+pub mod CellsLemmas

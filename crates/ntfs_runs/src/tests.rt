@@ -310,3 +310,32 @@ fn a_long_list_is_read_and_spelled_again(rt: HostRuntime) -> Result<(), Fail> {
     assert!(rt; into == bytes);
     Ok(())
 }
+
+/// Reads pairs and puts a run in a list: whether both were done. `tools/refused_memory.py` has each allocation of it refused in
+/// turn.
+fn reading_is_whole(rt: &impl Abort, host: &HostRuntime) -> Result<bool, Fail> {
+    let alloc = host.alloc();
+    let text = [0x21, 0x18, 0x34, 0x56, 0x01, 0x05, 0x00];
+    match decode(alloc, &text) {
+        Ok(runs) => assert_eq!(rt; runs.runs(), [at(0x18, 0x5634), hole(5)].as_slice()),
+        Err(fault) => {
+            assert_eq!(rt; fault, PairsFault::NoMemory);
+            return Ok(false);
+        }
+    }
+    match decode(alloc, &text[..4]) {
+        Ok(_) => panic!(rt; "pairs without an end were read"),
+        Err(PairsFault::NoMemory) => return Ok(false),
+        Err(fault) => assert_eq!(rt; fault, PairsFault::BadPairs { place: 4 }),
+    }
+    let mut runs = RunList::new(alloc);
+    let pushed = runs.push(hole(1)).is_ok();
+    assert_eq!(rt; runs.runs().len(), if pushed { 1 } else { 0 });
+    Ok(pushed)
+}
+
+#[test]
+fn with_ample_memory_all_is_read(rt: HostRuntime) -> Result<(), Fail> {
+    assert!(rt; reading_is_whole(&rt, &rt)?);
+    Ok(())
+}

@@ -1,21 +1,15 @@
 -- Cells of run lists.
-use Rattle.std.proofs.Common.{◌≡◌, ◌≤◌, ◌<◌, ◌+◌, ◌-◌, ◌^◌, ◌&&◌, ◌==◌, ℕ, zero, suc, List, [], ◌∷◌, ◌++◌, length, drop, get_or, refl, sym, ap, ◌∙◌, arith, length-append, append_assoc, Bool, true, false, Option, Some, None, nat_le, nat_lt}
+use Rattle.std.proofs.Common.{◌≡◌, ◌≤◌, ◌<◌, ◌+◌, ◌-◌, ◌^◌, ◌&&◌, ◌==◌, ℕ, zero, suc, List, [], ◌∷◌, ◌++◌, length, drop, get_or, refl, sym, ap, ◌∙◌, arith, Bool, true, false, Option, Some, None, nat_le, nat_lt}
 use Rattle.std.specs.Prelude.{◌||◌}
-use Rattle.std.proofs.lemmas.List.{at_drop_more, at_drop_all}
-use Rattle.std.proofs.lemmas.Bool.{le-leb, false≢true}
+use Rattle.std.proofs.lemmas.List.{at_drop_more}
+use Rattle.std.proofs.Math.Bool.{and_assoc}
+use Rattle.std.proofs.lemmas.Bool.{le-leb, false≢true, and_from}
 use Rattle.std.proofs.lemmas.Bool.Decides.{nat_tests}
 use Rattle.ntfs_runs.specs.declared.run.Run.{Run}
-use Rattle.ntfs_runs.specs.Clusters.{behind, row, vcns, FitFrom, AreSpellable}
+use Rattle.ntfs_runs.specs.Clusters.{row, vcns, AreSpellable}
 use Rattle.ntfs_runs.specs.Reading.{reading, cells_of}
+use Rattle.ntfs_runs.proofs.CellsLemmas.{no_run, length-vcns, count-next, vcns-all, cells_of-right, cells_of-wrong}
 use Rattle.ntfs_show.specs.Cells.{is_cell, are_cells, cells_below}
-
-and-true : (b : Bool) → (b && true) ≡ b
-and-true true = refl
-and-true false = refl
-
-and-assoc : (a b c : Bool) → ((a && b) && c) ≡ (a && (b && c))
-and-assoc true b c = refl
-and-assoc false b c = refl
 
 test_next : (l n k : ℕ) → (nat_lt l n && nat_le k (n - (l + 1))) ≡ nat_le (suc k) (n - l)
 test_next l n k = grind (arith, nat_tests)
@@ -40,28 +34,7 @@ are_cells-none holes n (suc k) = rw (are_cells-none holes n k) (hole_step holes 
 pub are_cells-append : (holes : Bool) (n : ℕ) (front rest : List (Option ℕ)) → are_cells holes n (front ++ rest) ≡ (are_cells holes n front && are_cells holes n rest)
 unfolding are_cells
 are_cells-append holes n [] rest = refl
-are_cells-append holes n (cell ∷ cells) rest = rw (are_cells-append holes n cells rest) (sym (and-assoc (is_cell holes n cell) (are_cells holes n cells) (are_cells holes n rest)))
-
-abbrev pub no_run : Run
-no_run = record { length = 0; lcn = None }
-
-pub length-row : (n : ℕ) (cell : Option ℕ) → length (row n cell) ≡ n
-unfolding row
-length-row zero cell = refl
-length-row (suc n) cell = ap suc (length-row n (behind cell 1))
-
-pub vcns-append : (front rest : List Run) → vcns (front ++ rest) ≡ vcns front ++ vcns rest
-unfolding vcns
-vcns-append [] rest = refl
-vcns-append (run ∷ runs) rest = rw (vcns-append runs rest) (sym (append_assoc (row run.length run.lcn) (vcns runs) (vcns rest)))
-
--- spellable runs have at most 2^48 VCNs
-pub length-vcns : (room : ℕ) (runs : List Run) → FitFrom room runs → length (vcns runs) ≤ room
-unfolding vcns
-length-vcns room [] fit = omega arith
-length-vcns room (run ∷ runs) fit =
-    let rest = length-vcns (room - run.length) runs fit.3 in
-    omega (arith, length-append (row run.length run.lcn) (vcns runs), length-row run.length run.lcn, rest, fit.1)
+are_cells-append holes n (cell ∷ cells) rest = rw (are_cells-append holes n cells rest) (sym (and_assoc (is_cell holes n cell) (are_cells holes n cells) (are_cells holes n rest)))
 
 -- one turn of a test of all runs
 pub are_cells-next : (holes : Bool) (n : ℕ) (runs : List Run) (i : ℕ) → i < length runs
@@ -70,17 +43,6 @@ unfolding vcns
 are_cells-next holes n runs i lt =
     at_drop_more (λ rs. are_cells holes n (vcns rs)) runs i no_run lt
     ∙ are_cells-append holes n (row (get_or runs i no_run).length (get_or runs i no_run).lcn) (vcns (drop (i + 1) runs))
-
-pub count-next : (runs : List Run) (i : ℕ) → i < length runs → length (vcns (drop i runs)) ≡ (get_or runs i no_run).length + length (vcns (drop (i + 1) runs))
-unfolding vcns
-count-next runs i lt =
-    at_drop_more (λ rs. length (vcns rs)) runs i no_run lt
-    ∙ length-append (row (get_or runs i no_run).length (get_or runs i no_run).lcn) (vcns (drop (i + 1) runs))
-    ∙ ap (λ k. k + length (vcns (drop (i + 1) runs))) (length-row (get_or runs i no_run).length (get_or runs i no_run).lcn)
-
-pub vcns-all : (runs : List Run) (i : ℕ) → length runs ≤ i → vcns (drop i runs) ≡ []
-unfolding vcns
-vcns-all runs i le = at_drop_all vcns runs i le
 
 or-true : (a b : Bool) → a ≡ true → (a || b) ≡ a
 or-true true b is = refl
@@ -105,18 +67,6 @@ count-more runs i count lt is = omega (arith, count-next runs i lt, is)
 pub count-all : (runs : List Run) (i count : ℕ) → length runs ≤ i → count + length (vcns (drop i runs)) ≡ length (vcns runs) → count ≡ length (vcns runs)
 count-all runs i count le is = omega (arith, ap length (vcns-all runs i le), is)
 
--- right pairs spell the cells of their runs, and wrong ones none
-pub cells_of-right : (pairs : List ℕ) (runs : List Run) → (reading pairs).is_right ≡ true → runs ≡ (reading pairs).runs → ((cells_of pairs).is_right ≡ true) × ((cells_of pairs).cells ≡ vcns runs)
-unfolding cells_of
-cells_of-right pairs runs right are = (right, rw (right, are) refl)
-
-pub cells_of-wrong : (pairs : List ℕ) → (reading pairs).is_right ≡ false → (cells_of pairs).is_right ≡ false
-unfolding cells_of
-cells_of-wrong pairs wrong = wrong
-
-and-both : (a b : Bool) → a ≡ true → b ≡ true → (a && b) ≡ true
-and-both a b first second = rw (first, second) refl
-
 and-first : (a b : Bool) → a ≡ false → (a && b) ≡ false
 and-first a b first = rw first refl
 
@@ -129,7 +79,7 @@ pub below-right : (n : ℕ) (pairs : List ℕ) (runs : List Run) → (reading pa
 unfolding cells_below
 below-right n pairs runs right are below =
     let cells = cells_of-right pairs runs right are in
-    (and-both (cells_of pairs).is_right (are_cells true n (cells_of pairs).cells) cells.0 (ap (are_cells true n) cells.1 ∙ below), cells.1)
+    (and_from (cells_of pairs).is_right (are_cells true n (cells_of pairs).cells) cells.0 (ap (are_cells true n) cells.1 ∙ below), cells.1)
 
 pub below-wrong : (n count : ℕ) (pairs : List ℕ) → (reading pairs).is_right ≡ false → ((cells_below n pairs).is_right && (length (cells_below n pairs).cells == count)) ≡ false
 unfolding cells_below

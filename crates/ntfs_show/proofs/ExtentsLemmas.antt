@@ -2,6 +2,7 @@
 use Rattle.std.proofs.Common.{◌≡◌, ◌≤◌, ◌-◌, ◌&&◌, ◌==◌, ℕ, List, [], ◌∷◌, ◌++◌, length, map, refl, sym, ap, ◌∙◌, subst, arith, length-append, append_assoc, eq-eqb, Bool, true, false, Option, Some, None, Ok, Err, if◌then◌else◌}
 use Rattle.std.specs.Prelude.{not, find, is_some, option_map, ◌||◌}
 use Rattle.std.proofs.Common.{inl, inr}
+use Rattle.std.proofs.Math.Bool.{and-true}
 use Rattle.std.proofs.lemmas.Bool.{eqb-true}
 use Rattle.std.proofs.lemmas.List.{append-nil}
 use Rattle.std.proofs.lemmas.Bool.{false≢true}
@@ -107,10 +108,6 @@ joins-more n es rest s old new within from adds =
           omega (arith, a, b, e, f, g, within, length-append (vcns old.runs) (cells_below n s.body.pairs).cells);
       below = adds.below from.below;
     }
-
-and-true : (b : Bool) → (b && true) ≡ b
-and-true true = refl
-and-true false = refl
 
 -- no extent is left
 pub joins-all : (n : ℕ) (es : List (Extent (Cells ℕ))) (all : Extents) → JoinsFrom n es all [] → Joins n es all

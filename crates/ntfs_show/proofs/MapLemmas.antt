@@ -20,7 +20,7 @@ use Rattle.ntfs_show.specs.Records.{entry_in, if_parsed, if_unfixed, is_in_use}
 use Rattle.ntfs_show.specs.Reading.{is_sought, or_no_map, pairs_extent}
 use Rattle.ntfs_show.specs.declared.cat_fault.CatFault.TheVariants as cat
 use Rattle.ntfs_show.specs.declared.sought.Sought.TheVariants as sought
-use Rattle.ntfs_show.proofs.CellsLemmas.{cells_of-right, cells_of-wrong}
+use Rattle.ntfs_runs.proofs.CellsLemmas.{cells_of-right, cells_of-wrong}
 use Rattle.ntfs_show.proofs.ExtentsLemmas.{list-plain}
 
 pub map-wrong : (g : Geometry) (e : Extent (List ℕ)) → (reading e.payload).is_right ≡ false → or_no_map (map_of_extent g (Some e)) ≡ Err (cat.Damaged rule.C3 0)

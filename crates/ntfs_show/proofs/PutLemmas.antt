@@ -15,7 +15,7 @@ use Rattle.ntfs_runs.specs.declared.run.Run.{Run}
 use Rattle.ntfs_runs.specs.Clusters.{vcns}
 use Rattle.ntfs_show.specs.Putting.{IsLeft, IsLeftBehind}
 use Rattle.ntfs_show.specs.declared.stream.Left.{Left}
-use Rattle.ntfs_show.proofs.CellsLemmas.{length-row, no_run, vcns-all}
+use Rattle.ntfs_runs.proofs.CellsLemmas.{length-row, no_run, vcns-all}
 use Rattle.ntfs_show.specs.StreamBytes.{pieces, shown_cell}
 use Rattle.ntfs_show.proofs.TableLemmas.{and-left, and-right}
 
@@ -108,7 +108,7 @@ pieces-none c v (cell ∷ cells) =
     let rest : 0 - c ≡ 0 = omega arith in
     ap (λ n. take n (shown_cell c v cell) ++ pieces c (0 - c) (v - c) cells) least ∙ ap (λ s. pieces c s (v - c) cells) rest ∙ pieces-none c (v - c) cells
 
-pub run-end : (f : ℕ → List ℕ) (c s v : ℕ) (cell : Option ℕ) → pieces c s v (map_cells f (row 0 cell)) ≡ []
+pub run-end : (f : ℕ → List ℕ) (c s v : ℕ) (cell : Option ℕ) → pieces c s v (map_cells f (row zero cell)) ≡ []
 unfolding row pieces
 run-end f c s v cell = refl
 

@@ -515,3 +515,28 @@ fn each_put_failing_alone_leaves_a_front(rt: HostRuntime) -> Result<(), Fail> {
     }
     Ok(())
 }
+
+/// Puts a stream of two runs: whether all was put. Where it wasn't, memory was wanting, and a front was put.
+/// `tools/refused_memory.py` has each allocation of it refused in turn.
+fn showing_is_whole(rt: &impl Abort, host: &HostRuntime) -> Result<bool, Fail> {
+    let alloc = host.alloc();
+    let Ok(bytes) = volume(alloc) else {
+        return Ok(false);
+    };
+    let (result, put) = answer(alloc, bytes, 17);
+    let Err(fault) = result else {
+        return Ok(true);
+    };
+    assert!(rt; put.len() <= 1024);
+    for i in 0..put.len() {
+        assert!(rt; i < 1024 && put[i] == byte_of(50, i));
+    }
+    assert_eq!(rt; fault, CatFault::NoMemory);
+    Ok(false)
+}
+
+#[test]
+fn with_ample_memory_a_stream_is_put(rt: HostRuntime) -> Result<(), Fail> {
+    assert!(rt; showing_is_whole(&rt, &rt)?);
+    Ok(())
+}

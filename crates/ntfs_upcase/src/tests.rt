@@ -5,6 +5,7 @@ ghost use Rattle.std.specs.Prelude.{◌≡◌, vec_len, IfOk};
 use crate::{UpCase, text_of, units_of};
 use std::alloc::{AllocError, Global};
 use std::cmp::Ordering;
+use std::process::Abort;
 use std::test::Fail;
 
 fn upper(unit: u16) -> u16 {
@@ -98,5 +99,34 @@ fn a_lone_surrogate_is_replaced(rt: HostRuntime) -> Result<(), Fail> {
     assert_eq!(rt; text.as_str(), "𝄞mus\u{FFFD}ic\u{FFFD}");
     let odd = text_of(rt.alloc(), &[0x61, 0, 0x62])?;
     assert_eq!(rt; odd.as_str(), "a");
+    Ok(())
+}
+
+/// Makes a name, its text and a table: whether all came, each whole. `tools/refused_memory.py` has each allocation of it refused in
+/// turn.
+fn naming_is_whole(rt: &impl Abort, host: &HostRuntime) -> Result<bool, Fail> {
+    let alloc = host.alloc();
+    let Ok(name) = units_of(alloc, "a€𝄞") else {
+        return Ok(false);
+    };
+    let units: &[u8] = &[0x61, 0, 0xAC, 0x20, 0x34, 0xD8, 0x1E, 0xDD];
+    assert_eq!(rt; name.as_slice(), units);
+    let Ok(text) = text_of(alloc, &name) else {
+        return Ok(false);
+    };
+    assert_eq!(rt; text.as_str(), "a€𝄞");
+    let Ok(bytes) = table_bytes(alloc) else {
+        return Ok(false);
+    };
+    let Ok(table) = UpCase::from_bytes(alloc, &bytes) else {
+        return Ok(false);
+    };
+    assert!(rt; table.same_name(b"a\0", b"A\0"));
+    Ok(true)
+}
+
+#[test]
+fn with_ample_memory_all_names_come(rt: HostRuntime) -> Result<(), Fail> {
+    assert!(rt; naming_is_whole(&rt, &rt)?);
     Ok(())
 }

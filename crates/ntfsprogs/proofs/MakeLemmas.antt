@@ -12,7 +12,8 @@ use Rattle.ntfs_base.specs.Image.{ImageState}
 use Rattle.ntfs_base.specs.Shelf.{Files, ShelfState, after_create, after_release, file_of, without}
 use Rattle.ntfs_base.proofs.ShelfLemmas.{name_same}
 use Rattle.ntfs_make.specs.Left.{IsZeroOrMade}
-use Rattle.ntfs_make.specs.Made.{byte_from, made, made_writes}
+use Rattle.ntfs_base.specs.Writes.{byte_from}
+use Rattle.ntfs_make.specs.Made.{made, made_writes}
 use Rattle.ntfs_make.specs.Shape.{IsShape, is_cluster_size, shape_of}
 use Rattle.ntfsprogs.specs.Make.{IsMakeStatus, IsPart, is_in_range, make_file_outcome, make_line_outcome, new_files, new_outcome, told_volume, volume_bytes, volume_of, volume_outcome, with_cluster}
 use Rattle.ntfs_base.specs.Stream.{SinkState}

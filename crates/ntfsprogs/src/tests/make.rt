@@ -17,6 +17,8 @@ const SMALL: [&str; 5] = ["ntfsmake", "v", "2", "1024", "1024"];
 /// The volume and its last cluster, which has the copy of the boot sector.
 const MADE_LEN: usize = 4_198_400;
 
+const SMALL_LEN: usize = 1_049_600;
+
 /// What a run with these words gives on this shelf.
 fn runs(
     rt: &impl Abort,
@@ -166,27 +168,30 @@ fn a_fault_leaves_a_part_of_the_volume(rt: HostRuntime) -> Result<(), Fail> {
     fails_at(&rt, alloc, 3, Leaves::Asked, made)
 }
 
-/// Whatever allocation is refused, a run ends whole or with want of memory. `tools/refused_memory.sh` has each allocation of
-/// this test refused in turn; here none is.
-#[test]
-fn a_refused_allocation_of_ntfsmake_is_want_of_memory(rt: HostRuntime) -> Result<(), Fail> {
-    let alloc = rt.alloc();
+/// Runs `ntfsmake`: whether it was done. Where it wasn't, memory was wanting, and there is no file, or one that is empty or has its
+/// length. `tools/refused_memory.py` has each allocation of it refused in turn.
+fn make_is_whole(rt: &impl Abort, host: &HostRuntime) -> Result<bool, Fail> {
+    let alloc = host.alloc();
     let mut shelf = MemShelf::new(alloc);
     let mut out = MemSink::new(alloc);
     let mut err = MemSink::new(alloc);
-    let Ok(status) = run_words(alloc, &MAKE, &mut shelf, &mut out, &mut err) else {
-        return Ok(());
+    let Ok(status) = run_words(alloc, &SMALL, &mut shelf, &mut out, &mut err) else {
+        return Ok(false);
     };
     assert_eq!(rt; out.content.len(), 0);
+    let length = shelf.content("v").map(|content| content.len());
     if status == Status::Done {
-        let content = shelf.content("v").ok_or("no file")?;
-        assert_eq!(rt; content.len(), MADE_LEN);
-    } else {
-        assert_eq!(rt; status, Status::NoMemory);
-        assert!(rt; b"ntfsmake: no memory\n".starts_with(err.content.as_slice()));
-        if let Some(content) = shelf.content("v") {
-            assert!(rt; content.is_empty() || content.len() == MADE_LEN);
-        }
+        assert_eq!(rt; length, Some(SMALL_LEN));
+        return Ok(true);
     }
+    assert_eq!(rt; status, Status::NoMemory);
+    assert!(rt; b"ntfsmake: no memory\n".starts_with(err.content.as_slice()));
+    assert!(rt; length.is_none() || length == Some(0) || length == Some(SMALL_LEN));
+    Ok(false)
+}
+
+#[test]
+fn with_ample_memory_ntfsmake_is_done(rt: HostRuntime) -> Result<(), Fail> {
+    assert!(rt; make_is_whole(&rt, &rt)?);
     Ok(())
 }

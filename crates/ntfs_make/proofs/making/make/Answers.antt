@@ -6,7 +6,7 @@ use Rattle.ntfs_make.specs.declared.table.Placed.{Placed}
 use Rattle.ntfs_make.specs.Parts.{placed}
 use Rattle.ntfs_make.specs.Made.{copy_write}
 use Rattle.ntfs_make.proofs.PlacedLemmas.{placed-small, placed-within}
-use Rattle.ntfs_make.proofs.WroteLemmas.{wrote-as, wrote-none-as, after_writes-size}
+use Rattle.ntfs_base.proofs.WroteLemmas.{wrote-as, wrote-none-as, after_writes-size}
 use Rattle.ntfs_make.proofs.LawLemmas.{made-given}
 use Rattle.ntfs_make.proofs.FrontLemmas.{left-given}
 use Rattle.ntfs_make.proofs.MadeLemmas.{made-cut, made-then}

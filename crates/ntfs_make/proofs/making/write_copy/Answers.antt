@@ -1,7 +1,7 @@
 use Rattle.std.proofs.Common.{◌≡◌, ◌+◌, ◌++◌, List, ℕ, length, ap, ◌∙◌, arith}
 use Rattle.ntfs_make.specs.Boot.{boot_sector}
 use Rattle.ntfs_make.proofs.ShapeLemmas.{bounds, times-fits, sectors-end}
-use Rattle.ntfs_make.proofs.WroteLemmas.{wrote-none-as}
+use Rattle.ntfs_base.proofs.WroteLemmas.{wrote-none-as}
 use Rattle.ntfs_make.proofs.PlacedLemmas.{length-boot}
 use Rattle.ntfs_make.proofs.making.write_copy.Goals as goal
 

@@ -1,7 +1,7 @@
 use Rattle.std.proofs.Common.{◌≡◌, length, ap, ◌∙◌, arith}
 use Rattle.ntfs_make.specs.Contents.{content_of}
 use Rattle.ntfs_make.proofs.ShapeLemmas.{bounds, times-fits, inside}
-use Rattle.ntfs_make.proofs.WroteLemmas.{wrote-none-as}
+use Rattle.ntfs_base.proofs.WroteLemmas.{wrote-none-as}
 use Rattle.ntfs_make.proofs.making.write_part.Goals as goal
 
 pub returns-in_err-content-clause-wrote : goal.returns-in_err-content-clause-wrote

@@ -1,7 +1,7 @@
 use Rattle.std.proofs.Common.{refl, ap, sym, ◌∙◌, arith}
 use Rattle.ntfs_base.proofs.WritesLemmas.{after_writes-nil}
 use Rattle.ntfs_make.specs.Made.{part_write}
-use Rattle.ntfs_make.proofs.WroteLemmas.{wrote-as, each-done, each-cut, after_writes-size}
+use Rattle.ntfs_base.proofs.WroteLemmas.{wrote-as, each-done, each-cut, after_writes-size}
 use Rattle.ntfs_make.proofs.making.write_parts.Goals as goal
 
 pub parts-init : goal.parts-init

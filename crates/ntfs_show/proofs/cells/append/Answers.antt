@@ -1,7 +1,7 @@
 use Rattle.std.proofs.Common.{◌++◌, ap, ◌∙◌, arith}
 use Rattle.std.proofs.lemmas.List.{take_all}
 use Rattle.ntfs_runs.specs.Clusters.{vcns}
-use Rattle.ntfs_show.proofs.CellsLemmas.{vcns-append}
+use Rattle.ntfs_runs.proofs.CellsLemmas.{vcns-append}
 use Rattle.ntfs_show.proofs.cells.append.Goals as goal
 
 pub returns : goal.returns

@@ -2,7 +2,8 @@ use Rattle.std.proofs.Common.{◌+◌, sym, ap, ◌∙◌, drop}
 use Rattle.std.specs.Prelude.{◌&&◌}
 use Rattle.ntfs_runs.specs.Clusters.{vcns}
 use Rattle.ntfs_show.specs.Cells.{are_cells}
-use Rattle.ntfs_show.proofs.CellsLemmas.{are_cells-next, vcns-all}
+use Rattle.ntfs_runs.proofs.CellsLemmas.{vcns-all}
+use Rattle.ntfs_show.proofs.CellsLemmas.{are_cells-next}
 use Rattle.ntfs_show.proofs.cells.are_cells.Goals as goal
 
 pub returns-then-not-is_run : goal.returns-then-not-is_run

@@ -1,5 +1,6 @@
 use Rattle.std.proofs.Common.{◌^◌, arith}
-use Rattle.ntfs_show.proofs.CellsLemmas.{count-sum, count-more, count-all, length-vcns}
+use Rattle.ntfs_runs.proofs.CellsLemmas.{length-vcns}
+use Rattle.ntfs_show.proofs.CellsLemmas.{count-sum, count-more, count-all}
 use Rattle.ntfs_show.proofs.cells.count_of.Goals as goal
 
 pub overflow_add-count : goal.overflow_add-count

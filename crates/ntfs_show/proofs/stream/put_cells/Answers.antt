@@ -10,7 +10,8 @@ use Rattle.ntfs_show.specs.Putting.{IsLeft}
 use Rattle.ntfs_show.specs.StreamBytes.{pieces}
 use Rattle.ntfs_show.specs.declared.cat_fault.CatFault.{CatFault}
 use Rattle.ntfs_show.specs.declared.stream.Left.{Left}
-use Rattle.ntfs_show.proofs.CellsLemmas.{are_cells-next, no_run}
+use Rattle.ntfs_runs.proofs.CellsLemmas.{no_run}
+use Rattle.ntfs_show.proofs.CellsLemmas.{are_cells-next}
 use Rattle.ntfs_show.proofs.PutLemmas.{left-all, left-start, runs-cut, runs-end, runs-step}
 use Rattle.ntfs_show.proofs.TableLemmas.{and-left, and-right}
 use Rattle.ntfs_show.proofs.stream.put_cells.Goals as goal
