@@ -39,7 +39,7 @@ def rounds_of(crates, name, program):
 
 def built_program():
     """The built program of this repository."""
-    subprocess.run(["rt", "run", "--", "ntfsinfo", "-m", "data/tiny.img"], cwd=CRATE, check=True, stdout=subprocess.DEVNULL)
+    subprocess.run(["rt", "run", "--", "ntfsinfo", "-m", "data/tiny.img"], cwd=CRATE, check=True, capture_output=True)
     return CRATE / "out" / "ntfsprogs"
 
 

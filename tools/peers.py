@@ -1,0 +1,109 @@
+#!/usr/bin/env python3
+"""Compares the tools with those of the stock package ntfs-3g, where it is installed.
+
+Volumes that `mkntfs` makes and `ntfscp` fills are shown by both: the geometry by `ntfsinfo -m`, and the unnamed stream of each
+record by `ntfscat`. Volumes of `ntfsmake` with clusters of up to 8,192 bytes are shown by the stock `ntfsls` and `ntfscat`, which
+refuse those with larger ones. Usage: tools/peers.py. It ends with 1 where an answer differs. The repository is only read, but for
+the built program.
+"""
+
+import pathlib
+import re
+import shutil
+import subprocess
+import sys
+import tempfile
+
+TOP = pathlib.Path(__file__).resolve().parent.parent
+CRATE = TOP / "crates" / "ntfsprogs"
+STOCK = ("mkntfs", "ntfscp", "ntfsinfo", "ntfsls", "ntfscat")
+SIZES = (0, 1, 700, 4095, 4096, 4097, 65_536, 3_000_000)
+# Of these the stock ntfscat shows something else: records without their fixups, and a named stream where there is no unnamed one.
+OTHERWISE = {0, 1, 9}
+FIELDS = {
+    "sector size": "Sector Size",
+    "cluster size": "Cluster Size",
+    "record size": "MFT Record Size",
+    "clusters": "Volume Size in Clusters",
+}
+
+
+def told(words):
+    """The status and the output of a command."""
+    done = subprocess.run([str(word) for word in words], stdout=subprocess.PIPE, stderr=subprocess.DEVNULL)
+    return done.returncode, done.stdout
+
+
+def filled(folder, cluster):
+    """A stock volume of so many bytes a cluster, with a file of each size."""
+    volume = folder / f"stock{cluster}"
+    with open(volume, "wb") as file:
+        file.truncate(64 << 20)
+    made = ["mkntfs", "-q", "-F", "-Q", "-s", "512", "-c", str(cluster), volume]
+    subprocess.run(made, check=True, stdout=subprocess.DEVNULL, stderr=subprocess.DEVNULL)
+    for number, size in enumerate(SIZES):
+        file = folder / f"file{number}"
+        file.write_bytes(bytes((place * place // 7 + number) % 256 for place in range(size)))
+        copied = ["ntfscp", "-q", "-f", volume, file, file.name]
+        subprocess.run(copied, check=True, stdout=subprocess.DEVNULL, stderr=subprocess.DEVNULL)
+    return volume
+
+
+def geometry_differs(program, volume):
+    ours = dict(line.split(": ") for line in told([program, "ntfsinfo", "-m", volume])[1].decode().splitlines())
+    stock = told(["ntfsinfo", "-m", "-f", volume])[1].decode()
+    return [f"{name} of {volume.name}" for name, label in FIELDS.items() if re.search(rf"{label}: (\d+)", stock)[1] != ours[name]]
+
+
+def streams_differ(program, volume):
+    """The records of which one ntfscat shows a stream that the other doesn't, and how many streams both show."""
+    wrong, same = [], 0
+    for number in range(128):
+        if number in OTHERWISE:
+            continue
+        ours, stock = told([program, "ntfscat", "-i", number, volume]), told(["ntfscat", "-f", "-i", number, volume])
+        if (ours[0] == 0) != (stock[0] == 0) or (ours[0] == 0 and ours[1] != stock[1]):
+            wrong.append(f"record {number} of {volume.name}")
+        same += ours[0] == 0
+    return wrong, same
+
+
+def made_differs(program, folder, seed, cluster):
+    """What the stock tools show of a made volume that isn't as it was made."""
+    volume = folder / f"made{seed}_{cluster}"
+    subprocess.run([program, "ntfsmake", volume, str(seed), "2048", str(cluster)], check=True)
+    names = set(told(["ntfsls", "-f", volume])[1].decode().splitlines())
+    wanted = {"A.txt", "a.txt", "Dir", "empty.bin", "resident.txt"} | {f"file{number:02}" for number in range(16)}
+    wrong = [f"{name} isn't in {volume.name}" for name in sorted(wanted - names)]
+    if told(["ntfscat", "-f", "-i", 16, volume])[1] != b"hello, ntfs\n":
+        wrong.append(f"record 16 of {volume.name}")
+    for number in range(32, 48):
+        shown = told(["ntfscat", "-f", "-i", number, volume])[1]
+        if not shown or shown != bytes((number + place) % 256 for place in range(len(shown))):
+            wrong.append(f"record {number} of {volume.name}")
+    return wrong
+
+
+def main():
+    if missing := [tool for tool in STOCK if shutil.which(tool) is None]:
+        raise SystemExit(f"not installed: {', '.join(missing)} (Debian's package ntfs-3g)")
+    subprocess.run(["rt", "run", "--", "ntfsinfo", "-m", "data/tiny.img"], cwd=CRATE, check=True, capture_output=True)
+    program = CRATE / "out" / "ntfsprogs"
+    wrong = []
+    with tempfile.TemporaryDirectory() as folder:
+        folder = pathlib.Path(folder)
+        for cluster in (512, 4096, 65_536):
+            volume = filled(folder, cluster)
+            differ, same = streams_differ(program, volume)
+            wrong += geometry_differs(program, volume) + differ
+            print(f"stock volume, clusters of {cluster} bytes: {same} streams compared")
+        for seed, cluster in ((0, 4096), (1, 512), (2, 1024), (7, 8192)):
+            wrong += made_differs(program, folder, seed, cluster)
+            print(f"made volume, seed {seed}, clusters of {cluster} bytes: shown by the stock tools")
+    for line in wrong:
+        print(f"differs: {line}")
+    sys.exit(1 if wrong else 0)
+
+
+if __name__ == "__main__":
+    main()
