@@ -3,8 +3,9 @@
 same bytes in the same run, and counts the system calls of each.
 
 It builds the program with `rt run` in crates/ntfsprogs, makes the image in a temporary folder (name another one, on the disk
-that is to be measured, as the only argument), and takes the least time of each command over its rounds. Where the stock
-`ntfscat` is installed, it is measured too. The repository is only read, but for the built program.
+that is to be measured, as the only argument), and takes the least time of each command over its rounds. Where the stock package
+ntfs-3g is installed, its `ntfscat` is measured too, and both on a volume that the stock tools made. The repository is only read,
+but for the built program.
 """
 
 import pathlib
@@ -63,9 +64,22 @@ def calls(words):
     if shutil.which("strace") is None:
         return "not counted"
     with tempfile.NamedTemporaryFile() as log:
-        subprocess.run(["strace", "-f", "-c", "-o", log.name, *words], stdout=subprocess.DEVNULL, check=True)
+        traced = ["strace", "-f", "-c", "-o", log.name, *(str(word) for word in words)]
+        subprocess.run(traced, stdout=subprocess.DEVNULL, check=True)
         rows = pathlib.Path(log.name).read_text().splitlines()
     return next(row.split()[3] if len(row.split()) > 4 else row.split()[2] for row in rows if row.endswith("total"))
+
+
+def stock_volume(folder, content):
+    """A volume that the stock tools made with a file of these contents, and the number of its record."""
+    volume = folder / "stock"
+    with open(volume, "wb") as file:
+        file.truncate(STREAM + (64 << 20))
+    made = ["mkntfs", "-q", "-F", "-Q", "-s", "512", "-c", str(CLUSTER), volume]
+    subprocess.run(made, check=True, stdout=subprocess.DEVNULL, stderr=subprocess.DEVNULL)
+    subprocess.run(["ntfscp", "-q", "-f", volume, content, content.name], check=True, stdout=subprocess.DEVNULL, stderr=subprocess.DEVNULL)
+    rows = subprocess.run(["ntfsls", "-f", "-i", volume], check=True, stdout=subprocess.PIPE, text=True).stdout.splitlines()
+    return volume, next(row.split()[0] for row in rows if row.split()[1:] == [content.name])
 
 
 def main():
@@ -77,14 +91,15 @@ def main():
             for number in range(STREAM // 4096):
                 file.write(number.to_bytes(8, "little") * 512)
         make(image, content)
-        tools = {"cat": ["cat", str(content)], "ntfscat, this program": [str(program), "ntfscat", "-i", str(FIRST), str(image)]}
-        if shutil.which("ntfscat"):
-            tools["ntfscat, stock"] = ["ntfscat", "-f", "-i", str(FIRST), str(image)]
-        subprocess.run(tools["ntfscat, this program"], stdout=open(out, "wb"), check=True)
-        subprocess.run(["cmp", content, out], check=True)
+        tools = {"cat": ["cat", content], "ntfscat": [program, "ntfscat", "-i", FIRST, image]}
+        if all(shutil.which(tool) for tool in ("mkntfs", "ntfscp", "ntfsls", "ntfscat")):
+            volume, number = stock_volume(folder, content)
+            tools["ntfscat, stock volume"] = [program, "ntfscat", "-i", number, volume]
+            tools["stock ntfscat, stock volume"] = ["ntfscat", "-f", "-i", number, volume]
         plain = {}
         for name, words in tools.items():
             file, nothing = least(words, out), least(words)
+            subprocess.run(["cmp", content, out], check=True)
             plain.setdefault("file", file)
             plain.setdefault("nothing", nothing)
             print(
