@@ -22,6 +22,7 @@ ghost use Rattle.std.specs.Fmt.{decimal};
 ghost use Rattle.hex.specs.Hex.{encode_lower};
 
 impl Line {
+    /// An empty line.
     pub fn new() -> Line
         ensures { result ≡ [] }
     {
@@ -31,6 +32,7 @@ impl Line {
         }
     }
 
+    /// The bytes of the line.
     pub fn as_bytes(&self) -> &[u8]
         ensures { result.now ≡ self.now }
     {

@@ -17,6 +17,7 @@ pub(crate) struct BootSector {
 }
 
 impl BootSector {
+    /// Reads the fields at their places.
     pub fn read(sector: &[u8; 512]) -> BootSector
         ensures { result ≡ fields_of sector.now }
     {

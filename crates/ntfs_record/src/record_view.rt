@@ -37,6 +37,7 @@ impl<'a> Model for RecordView<'a> {
 
 #[tactic(auto, using(crate::proofs::Sound::sound_header), unfolding(crate::specs::Parsed::entry_of, crate::specs::Header::head_of))]
 impl<'a> RecordView<'a> {
+    /// The sequence number, which tells how often the record was used for another file.
     pub fn sequence(&self) -> u16
         ensures { result ≡ self.now.head.sequence }
     {
@@ -81,6 +82,7 @@ impl<'a> RecordView<'a> {
         Some(own_number_of(self.bytes))
     }
 
+    /// The attributes, in the record's order.
     pub fn attributes(&self) -> Attributes<'a>
         ensures parts { result ≡ self.now.parts }
         ensures few { length result < 2 ^ 32 }

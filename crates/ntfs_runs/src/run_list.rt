@@ -39,6 +39,7 @@ impl RunList {
         Ok(())
     }
 
+    /// The runs, in their order.
     pub fn runs(&self) -> &[Run]
         ensures { result.now ≡ self.now }
     {

@@ -74,7 +74,7 @@ pub fn cat_image(words: &[String]) -> Option<(&str, &str)>
     }
 }
 
-/// The words of a command line of `ntfsmake`, where they are the tool's name, a name that is no option, and three more.
+/// The words of a command line of `ntfsmake` behind the tool's name.
 #[derive(Clone, Copy)]
 pub struct MakeWords<'a> {
     pub file: &'a str,
@@ -83,6 +83,7 @@ pub struct MakeWords<'a> {
     pub cluster: &'a str,
 }
 
+/// The words of a command line of `ntfsmake`, where they are the tool's name, a name that is no option, and three more.
 #[tactic(auto, unfolding(crate::specs::Words::make_file))]
 pub fn make_file<'a>(words: &'a [String]) -> Option<MakeWords<'a>>
     ensures file { option_map (λ told. told.file.now) result ≡ make_file (map string_bytes words.entry.now) }

@@ -32,6 +32,7 @@ impl MemContent {
         }
     }
 
+    /// Reads the bytes from a place on, unless the call is one that is to fail.
     pub fn read(&mut self, at: u64, into: &mut [u8]) -> Result<(), Failed>
         requires { at + length into.old ≤ length self.old.bytes.items }
         ensures bytes { OnOk result (into.new ≡ slice_range self.old.bytes.items at (at + length into.old)) }
@@ -46,6 +47,7 @@ impl MemContent {
         Ok(())
     }
 
+    /// Writes bytes from a place on. A call that is to fail leaves the range as it was, or as asked.
     pub fn write(&mut self, at: u64, bytes: &[u8]) -> Result<(), Failed>
         requires { at + length bytes.now ≤ length self.old.bytes.items }
         ensures memory { WritesMemory (record { place = at; bytes = bytes.now }) self.old result self.new }
@@ -67,6 +69,7 @@ impl MemContent {
         }
     }
 
+    /// Does nothing but count the call, and fail where it is to.
     pub fn sync(&mut self) -> Result<(), Failed>
         ensures memory { SyncsMemory self.old result self.new }
     {
@@ -77,6 +80,7 @@ impl MemContent {
         Ok(())
     }
 
+    /// Cuts the bytes to a length, or extends them with zeros. A call that is to fail leaves them as they were, or as asked.
     pub fn set_len(&mut self, len: u64) -> Result<(), PutFault>
         ensures memory { SetsMemory len self.old result self.new }
         ensures numbered { IsNumbered self.old self.new }
@@ -93,6 +97,7 @@ impl MemContent {
         }
     }
 
+    /// Puts bytes at the end. A call that is to fail puts a front of them.
     pub fn append(&mut self, bytes: &[u8]) -> Result<(), PutFault>
         ensures memory { AppendsMemory bytes.now self.old result self.new }
         ensures numbered { IsNumbered self.old self.new }
