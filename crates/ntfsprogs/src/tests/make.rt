@@ -168,6 +168,45 @@ fn a_fault_leaves_a_part_of_the_volume(rt: HostRuntime) -> Result<(), Fail> {
     fails_at(&rt, alloc, 3, Leaves::Asked, made)
 }
 
+/// A fault of the output comes before the file is made.
+#[test]
+fn a_fault_of_the_output_of_ntfsmake_leaves_no_file(rt: HostRuntime) -> Result<(), Fail> {
+    let alloc = rt.alloc();
+    let mut shelf = MemShelf::new(alloc);
+    let mut out = MemSink::new(alloc);
+    out.calls.fail(1, Leaves::Before)?;
+    let mut err = MemSink::new(alloc);
+    let status = run_words(alloc, &SMALL, &mut shelf, &mut out, &mut err)?;
+    assert_eq!(rt; status, Status::WriteFault);
+    assert_eq!(rt; out.faults.failures, 1);
+    assert!(rt; err.content.as_slice() == b"ntfsmake: write fault\n".as_slice());
+    assert!(rt; shelf.content("v").is_none());
+    Ok(())
+}
+
+#[test]
+fn a_fault_of_the_messages_of_ntfsmake_changes_no_status(rt: HostRuntime) -> Result<(), Fail> {
+    let alloc = rt.alloc();
+    for number in [1, 2, 3] {
+        let mut shelf = MemShelf::new(alloc);
+        shelf.add("v", zeros(alloc, 1)?)?;
+        let mut out = MemSink::new(alloc);
+        let mut err = MemSink::new(alloc);
+        err.calls.fail(number, Leaves::Before)?;
+        let status = run_words(alloc, &SMALL, &mut shelf, &mut out, &mut err)?;
+        assert_eq!(rt;
+            status,
+            Status::Present {
+                file: Named::Output
+            }
+        );
+        assert_eq!(rt; err.faults.failures, 1);
+        assert!(rt; b"ntfsmake: file exists: v\n".starts_with(err.content.as_slice()));
+        assert_eq!(rt; shelf.content("v").ok_or("no file")?.len(), 1);
+    }
+    Ok(())
+}
+
 /// Runs `ntfsmake`: whether it was done. Where it wasn't, memory was wanting, and there is no file, or one that is empty or has its
 /// length. `tools/refused_memory.py` has each allocation of it refused in turn.
 fn make_is_whole(rt: &impl Abort, host: &HostRuntime) -> Result<bool, Fail> {
