@@ -3,7 +3,7 @@
 
 Volumes that `mkntfs` makes and `ntfscp` fills are shown by both: the geometry by `ntfsinfo -m`, and the unnamed stream of each
 record by `ntfscat`. Volumes of `ntfsmake` with clusters of up to 8,192 bytes are shown by the stock `ntfsls` and `ntfscat`, which
-refuse those with larger ones. Usage: tools/peers.py. It ends with 1 where an answer differs. The repository is only read, but for
+refused those with larger ones. Usage: tools/peers.py. It ends with 1 where an answer differs. The repository is only read, but for
 the built program.
 """
 
