@@ -7,3 +7,4 @@ pub mod ShelfLemmas
 pub mod AttachLemmas
 pub mod WroteLemmas
 pub mod AppliedLemmas
+pub mod FramesLemmas
