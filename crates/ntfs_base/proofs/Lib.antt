@@ -1,4 +1,6 @@
 pub mod BytesLemmas
+pub mod PieceLemmas
+pub mod OverwriteLemmas
 pub mod WritesLemmas
 pub mod GrowthLemmas
 pub mod StreamLemmas
@@ -6,5 +8,5 @@ pub mod MemoryLemmas
 pub mod ShelfLemmas
 pub mod AttachLemmas
 pub mod WroteLemmas
-pub mod AppliedLemmas
+pub mod ContentLemmas
 pub mod FramesLemmas

@@ -1,33 +1,17 @@
 -- What writes leave.
 use Rattle.std.proofs.Common.{◌≡◌, ◌≤◌, ◌+◌, ◌-◌, ℕ, List, [], ◌∷◌, ◌++◌, length, refl, ap, ◌∙◌, take, Result, Ok, Err, arith, length-append, if◌then◌else◌, Bool, true, false}
 use Rattle.std.proofs.lemmas.List.{length-take-le, length-drop, drop-drop}
-use borrow.Rule.Slice.PartMut.{put_mid}
+use Rattle.ntfs_base.specs.Bytes.{overwrite}
 use Rattle.ntfs_base.specs.Image.{ImageState}
-use Rattle.ntfs_base.specs.Writes.{Write, overwritten, applied, after_writes, Wrote}
-
--- what a copy into a part of a slice leaves
-pub put_mid-overwritten : (at : ℕ) (content bytes part : List ℕ) → at + length bytes ≤ length content → part ≡ bytes → put_mid at (at + length bytes - at) content part ≡ overwritten (record { place = at; bytes = bytes }) content
-unfolding overwritten
-put_mid-overwritten at content bytes part within same =
-    let count : at + length bytes - at ≡ length bytes = omega arith in
-    let behind = drop-drop (length bytes) at content in
-    rw (same, count, behind) refl
-
--- a write within the content keeps its length
-pub length-overwritten : (w : Write) (content : List ℕ) → w.place + length w.bytes ≤ length content → length (overwritten w content) ≡ length content
-unfolding overwritten
-length-overwritten w content within =
-    let front = length-take-le w.place content (omega arith) in
-    let behind = length-drop (w.place + length w.bytes) content in
-    simp (length-append, front, behind) (omega arith)
+use Rattle.ntfs_base.specs.Writes.{Write, content_after, after_writes, Wrote}
 
 -- all of the first writes, and then all of the others
-pub applied-append : (front rest : List Write) (content : List ℕ) → applied (front ++ rest) content ≡ applied rest (applied front content)
-applied-append [] rest content = refl
-applied-append (w ∷ ws) rest content = applied-append ws rest (overwritten w content)
+pub content_after-append : (front rest : List Write) (content : List ℕ) → content_after (front ++ rest) content ≡ content_after rest (content_after front content)
+content_after-append [] rest content = refl
+content_after-append (w ∷ ws) rest content = content_after-append ws rest (overwrite w.place w.bytes content)
 
-after_writes-told : (told : Bool) (front rest : List Write) (content : List ℕ) → (if told then applied (front ++ rest) content else content) ≡ (if told then applied rest (if told then applied front content else content) else (if told then applied front content else content))
-after_writes-told true front rest content = applied-append front rest content
+after_writes-told : (told : Bool) (front rest : List Write) (content : List ℕ) → (if told then content_after (front ++ rest) content else content) ≡ (if told then content_after rest (if told then content_after front content else content) else (if told then content_after front content else content))
+after_writes-told true front rest content = content_after-append front rest content
 after_writes-told false front rest content = refl
 
 pub after_writes-append : (front rest : List Write) (image : ImageState) → after_writes (front ++ rest) image ≡ after_writes rest (after_writes front image)

@@ -1,9 +1,10 @@
 -- What a call on bytes in memory does to them, to the count of its calls and to its faults. The words are ours.
 use Rattle.std.specs.Prelude.{◌≡◌, ◌<◌, ◌++◌, ℕ, List, OnOk, OnErr, Result, Ok, Err, None, is_some, [], true, length}
+use Rattle.ntfs_base.specs.Bytes.{overwrite}
 use Rattle.ntfs_base.specs.Calls.{AsPlanned, count_after, front_by, left_by, next_failing, one_more}
 use Rattle.ntfs_base.specs.Growth.{resized}
 use Rattle.ntfs_base.specs.Image.{ImageState}
-use Rattle.ntfs_base.specs.Writes.{Write, overwritten}
+use Rattle.ntfs_base.specs.Writes.{Write}
 use Rattle.ntfs_base.specs.declared.fault.PutFault.{PutFault}
 use Rattle.ntfs_base.specs.declared.fault.PutFault.TheVariants as put
 use Rattle.ntfs_base.specs.declared.memory.content.MemContent.{MemContent}
@@ -21,8 +22,8 @@ pub record ReadsMemory {T E : Type 0} (old : MemContent) (result : Result T E) (
 
 -- a write does what is asked, or fails as planned, leaves what the plan says, and counts its fault
 pub record WritesMemory {T E : Type 0} (w : Write) (old : MemContent) (result : Result T E) (new : MemContent) : Type 0 where
-  pub whole : OnOk result (new.bytes.items ≡ overwritten w old.bytes.items)
-  pub part : OnErr result (new.bytes.items ≡ left_by (next_failing old.calls) old.bytes.items (overwritten w old.bytes.items))
+  pub whole : OnOk result (new.bytes.items ≡ overwrite w.place w.bytes old.bytes.items)
+  pub part : OnErr result (new.bytes.items ≡ left_by (next_failing old.calls) old.bytes.items (overwrite w.place w.bytes old.bytes.items))
   pub len : length new.bytes.items ≡ length old.bytes.items
   pub planned : AsPlanned old.calls result new.calls
   pub reads : new.faults.reads ≡ old.faults.reads

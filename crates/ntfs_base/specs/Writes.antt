@@ -1,5 +1,6 @@
 -- Writes in place: what a content is after a list of them, and what a call that writes promises. The words are ours.
-use Rattle.std.specs.Prelude.{◌≡◌, ◌≤◌, ◌+◌, ◌-◌, ◌⊎◌, ◌&&◌, ℕ, Bool, List, [], ◌∷◌, ◌++◌, length, take, drop, slice_index, nat_le, nat_lt, OnOk, OnErr, Result, if◌then◌else◌}
+use Rattle.std.specs.Prelude.{◌≡◌, ◌≤◌, ◌+◌, ◌-◌, ◌⊎◌, ◌&&◌, ℕ, Bool, List, [], ◌∷◌, length, take, slice_index, nat_le, nat_lt, OnOk, OnErr, Result, if◌then◌else◌}
+use Rattle.ntfs_base.specs.Bytes.{overwrite}
 use Rattle.ntfs_base.specs.Image.{ImageState}
 
 -- bytes that are put at a place
@@ -7,18 +8,14 @@ pub record Write : Type 0 where
   pub place : ℕ
   pub bytes : List ℕ
 
--- the content after one write
-unfoldable pub overwritten : Write → List ℕ → List ℕ
-overwritten w content = take w.place content ++ (w.bytes ++ drop (w.place + length w.bytes) content)
-
 -- the content after all writes, in their order
-abbrev pub applied : List Write → List ℕ → List ℕ
-applied [] content = content
-applied (w ∷ ws) content = applied ws (overwritten w content)
+abbrev pub content_after : List Write → List ℕ → List ℕ
+content_after [] content = content
+content_after (w ∷ ws) content = content_after ws (overwrite w.place w.bytes content)
 
 -- the image as it is after the writes: all but its content as before
 unfoldable pub after_writes : List Write → ImageState → ImageState
-after_writes ws image = record image { content = if image.is_told then applied ws image.content else image.content }
+after_writes ws image = record image { content = if image.is_told then content_after ws image.content else image.content }
 
 -- a call that had to make these writes made all of them, or, where it failed, those of a front
 pub record Wrote {T E : Type 0} (ws : List Write) (old : ImageState) (result : Result T E) (new : ImageState) : Type 0 where

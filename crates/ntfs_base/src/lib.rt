@@ -7,6 +7,7 @@ mod fault;
 mod file_sink;
 mod file_source;
 mod image;
+pub mod in_place;
 mod line;
 mod meaning;
 mod memory;

@@ -450,3 +450,17 @@ fn with_ample_memory_all_is_done(rt: HostRuntime) -> Result<(), Fail> {
     assert!(rt; put_is_whole(&rt, &rt)?);
     Ok(())
 }
+
+#[test]
+fn bytes_are_put_at_a_place(rt: HostRuntime) {
+    let mut bytes = *b"0123456789abcdef";
+    in_place::overwrite(&mut bytes, 14, b"XY");
+    in_place::overwrite_zeros(&mut bytes, 0, 2);
+    in_place::overwrite_u16(&mut bytes, 2, 0x4142);
+    in_place::overwrite_u32(&mut bytes, 4, 0x6162_6364);
+    in_place::move_piece(&mut bytes, 2, 4, 3);
+    assert!(rt; bytes == *b"\0\0BBAdca89abcdXY");
+    in_place::overwrite_u64(&mut bytes, 8, 0x3031_3233_3435_3637);
+    in_place::overwrite(&mut bytes, 16, b"");
+    assert!(rt; bytes == *b"\0\0BBAdca76543210");
+}

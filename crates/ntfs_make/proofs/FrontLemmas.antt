@@ -4,8 +4,8 @@ use Rattle.std.specs.Prelude.{OnErr}
 use Rattle.std.proofs.lemmas.List.{length-replicate, get_or-replicate}
 use Rattle.std.proofs.lemmas.List.FromFn.{get_or-map-range_with_len}
 use Rattle.ntfs_base.specs.Image.{ImageState}
-use Rattle.ntfs_base.specs.Writes.{applied, byte_from, Wrote}
-use Rattle.ntfs_base.proofs.AppliedLemmas.{AllInside, length-applied, applied-at, inside-take, told-applied, front-byte}
+use Rattle.ntfs_base.specs.Writes.{content_after, byte_from, Wrote}
+use Rattle.ntfs_base.proofs.ContentLemmas.{AllInside, length-content_after, content_after-at, inside-take, told-content_after, front-byte}
 use Rattle.ntfs_make.specs.Shape.{IsShape, shape_of}
 use Rattle.ntfs_make.specs.Made.{made_writes, made}
 use Rattle.ntfs_make.specs.Left.{IsZeroOrMade}
@@ -21,19 +21,19 @@ unfolding made_writes
 made-inside seed clusters cluster is = inside-writes (shape_of seed clusters cluster) is
 
 -- a front of the writes over zeros
-pub front-left : (seed clusters cluster k : ℕ) → IsShape (shape_of seed clusters cluster) → IsZeroOrMade seed clusters cluster (applied (take k (made_writes seed clusters cluster)) (replicate ((clusters + 1) * cluster) 0))
+pub front-left : (seed clusters cluster k : ℕ) → IsShape (shape_of seed clusters cluster) → IsZeroOrMade seed clusters cluster (content_after (take k (made_writes seed clusters cluster)) (replicate ((clusters + 1) * cluster) 0))
 front-left seed clusters cluster k is =
     let ws = made_writes seed clusters cluster in
     let size = (clusters + 1) * cluster in
     let long : length (replicate size 0) ≡ size = length-replicate size 0 in
     let within : AllInside size (take k ws) = inside-take size ws k (made-inside seed clusters cluster is) in
-    let left_long : length (applied (take k ws) (replicate size 0)) ≡ size = length-applied (take k ws) (replicate size 0) size long within in
+    let left_long : length (content_after (take k ws) (replicate size 0)) ≡ size = length-content_after (take k ws) (replicate size 0) size long within in
     record {
       len = left_long;
-      bytes = λ (i : ℕ) (below : i < length (applied (take k ws) (replicate size 0))).
+      bytes = λ (i : ℕ) (below : i < length (content_after (take k ws) (replicate size 0))).
           let short : i < size = subst (λ n. i < n) left_long below in
-          let here : slice_index (applied (take k ws) (replicate size 0)) i ≡ byte_from (take k ws) i 0
-          = applied-at (take k ws) (replicate size 0) size i long within ∙ ap (byte_from (take k ws) i) (get_or-replicate size i 0 0 short) in
+          let here : slice_index (content_after (take k ws) (replicate size 0)) i ≡ byte_from (take k ws) i 0
+          = content_after-at (take k ws) (replicate size 0) size i long within ∙ ap (byte_from (take k ws) i) (get_or-replicate size i 0 0 short) in
           ⊎_elim (λ none. inl (here ∙ none)) (λ given. inr (here ∙ given ∙ sym (made-at seed clusters cluster i short)))
           (front-byte ws k i (pieces-apart seed clusters cluster is));
     }
@@ -44,5 +44,5 @@ pub left-given : {E : Type 0} (seed clusters cluster : ℕ) (old new : ImageStat
 left-given seed clusters cluster old new (Ok x) range is zeros = tt
 left-given seed clusters cluster old new (Err e) range is zeros = λ (told : IsTrue old.is_told).
     let front = take is.part.0 (made_writes seed clusters cluster) in
-    subst (IsZeroOrMade seed clusters cluster) (sym (told-applied front old new is.part.2 told ∙ ap (applied front) (zeros told)))
+    subst (IsZeroOrMade seed clusters cluster) (sym (told-content_after front old new is.part.2 told ∙ ap (content_after front) (zeros told)))
     (front-left seed clusters cluster is.part.0 range)

@@ -2,8 +2,8 @@
 use Rattle.std.proofs.Common.{◌≡◌, ◌+◌, ◌*◌, ℕ, IsTrue, List, [], ◌∷◌, length, map, replicate, ap, ◌∙◌, arith}
 use Rattle.std.specs.Prelude.{Result, Ok, Err, OnOk}
 use Rattle.ntfs_base.specs.Image.{ImageState}
-use Rattle.ntfs_base.specs.Writes.{applied, Wrote}
-use Rattle.ntfs_base.proofs.AppliedLemmas.{AllInside, applied-zeros, inside-append, told-applied}
+use Rattle.ntfs_base.specs.Writes.{content_after, Wrote}
+use Rattle.ntfs_base.proofs.ContentLemmas.{AllInside, content_after-zeros, inside-append, told-content_after}
 use Rattle.ntfs_make.specs.declared.shape.Shape.{Shape}
 use Rattle.ntfs_make.specs.declared.table.Placed.{Placed}
 use Rattle.ntfs_make.specs.Shape.{IsShape, shape_of}
@@ -30,14 +30,14 @@ inside-writes shape is =
     inside-append ((shape.clusters + 1) * shape.cluster) (map (part_write shape all) all) (copy_write shape all ∷ []) (inside-parts shape all all (all-placed shape all is)) (omega arith, tt)
 
 -- the writes over zeros give the volume
-pub applied-made : (seed clusters cluster : ℕ) → IsShape (shape_of seed clusters cluster) → applied (made_writes seed clusters cluster) (replicate ((clusters + 1) * cluster) 0) ≡ made seed clusters cluster
+pub content_after-made : (seed clusters cluster : ℕ) → IsShape (shape_of seed clusters cluster) → content_after (made_writes seed clusters cluster) (replicate ((clusters + 1) * cluster) 0) ≡ made seed clusters cluster
 unfolding made made_writes
-applied-made seed clusters cluster is =
-    applied-zeros (writes_of (shape_of seed clusters cluster)) ((clusters + 1) * cluster) (inside-writes (shape_of seed clusters cluster) is)
+content_after-made seed clusters cluster is =
+    content_after-zeros (writes_of (shape_of seed clusters cluster)) ((clusters + 1) * cluster) (inside-writes (shape_of seed clusters cluster) is)
 
 -- what a call leaves that has written the volume over zeros
 pub made-given : {E : Type 0} (seed clusters cluster : ℕ) (old new : ImageState) (result : Result (Unit {0}) E) → IsShape (shape_of seed clusters cluster) → Wrote (made_writes seed clusters cluster) old result new
     → (IsTrue old.is_told → old.content ≡ replicate ((clusters + 1) * cluster) 0) → OnOk result (IsTrue old.is_told → new.content ≡ made seed clusters cluster)
 made-given seed clusters cluster old new (Ok x) range is zeros = λ (told : IsTrue old.is_told).
-    told-applied (made_writes seed clusters cluster) old new is.whole told ∙ ap (applied (made_writes seed clusters cluster)) (zeros told) ∙ applied-made seed clusters cluster range
+    told-content_after (made_writes seed clusters cluster) old new is.whole told ∙ ap (content_after (made_writes seed clusters cluster)) (zeros told) ∙ content_after-made seed clusters cluster range
 made-given seed clusters cluster old new (Err e) range is zeros = tt

@@ -5,10 +5,10 @@ use Rattle.std.specs.List.{AllByRecursion}
 use Rattle.std.proofs.lemmas.List.{length-take, length-drop}
 use Rattle.std.proofs.lemmas.List.Elements.{All-from_recursion}
 use Rattle.std.proofs.lemmas.Bool.{eqb-true, eqb-false, cases_lt}
-use Rattle.ntfs_base.specs.Bytes.{AreBytes}
+use Rattle.ntfs_base.specs.Bytes.{AreBytes, piece_at}
 use Rattle.ntfs_base.proofs.BytesLemmas.{number_at-lt}
 use Rattle.ntfs_record.specs.declared.fault.RecordFault.{RecordFault}
-use Rattle.ntfs_record.specs.Layout.{first_attribute_of, in_use_of, allocated_of, length_at, non_resident_at, name_units_at, name_offset_at, value_length_at, value_offset_at, pairs_offset_at, piece_at}
+use Rattle.ntfs_record.specs.Layout.{first_attribute_of, in_use_of, allocated_of, length_at, non_resident_at, name_units_at, name_offset_at, value_length_at, value_offset_at, pairs_offset_at}
 use Rattle.ntfs_record.specs.Entry.{EntryHead, Part, Entry}
 use Rattle.ntfs_record.specs.Header.{head_of}
 use Rattle.ntfs_record.specs.Attribute.{name_at, resident_at, runs_at, part_at, IsSoundAt}

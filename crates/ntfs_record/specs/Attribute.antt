@@ -1,7 +1,8 @@
 -- An attribute at a place of a file record: its tests, what it says, and what holds where nothing is wrong with it (the
 -- Linux-NTFS documentation, "Attribute Header").
 use Rattle.std.specs.Prelude.{ℕ, ◌≡◌, ◌≤◌, ◌<◌, ◌+◌, ◌*◌, ◌-◌, ◌%◌, ◌^◌, ◌==◌, ◌&&◌, ◌||◌, Bool, true, false, List, [], nat_le, if◌then◌else◌}
-use Rattle.ntfs_record.specs.Layout.{kind_at, length_at, non_resident_at, name_units_at, name_offset_at, attribute_flags_at, instance_at, value_length_at, value_offset_at, lowest_at, highest_at, pairs_offset_at, allocated_at, size_at, valid_at, piece_at}
+use Rattle.ntfs_base.specs.Bytes.{piece_at}
+use Rattle.ntfs_record.specs.Layout.{kind_at, length_at, non_resident_at, name_units_at, name_offset_at, attribute_flags_at, instance_at, value_length_at, value_offset_at, lowest_at, highest_at, pairs_offset_at, allocated_at, size_at, valid_at}
 use Rattle.ntfs_record.specs.Entry.{Part}
 
 -- the type that ends the list of attributes

@@ -3,7 +3,8 @@
 use Rattle.std.specs.Prelude.{◌≡◌, ◌≢◌, ◌≤◌, ◌<◌, ◌^◌, ◌+◌, ◌*◌, ◌%◌, ℕ, codes, List, [], ◌∷◌, length, take, Some, true, false, All}
 use Rattle.ntfs_record.specs.declared.fault.RecordFault.{RecordFault}
 use Rattle.ntfs_record.specs.declared.fault.RecordFault.TheVariants.{BadHeader, BadAttribute}
-use Rattle.ntfs_record.specs.Layout.{array_offset_of, array_count_of, first_attribute_of, in_use_of, allocated_of, kind_at, length_at, piece_at}
+use Rattle.ntfs_base.specs.Bytes.{piece_at}
+use Rattle.ntfs_record.specs.Layout.{array_offset_of, array_count_of, first_attribute_of, in_use_of, allocated_of, kind_at, length_at}
 use Rattle.ntfs_record.specs.Entry.{Part, Entry}
 use Rattle.ntfs_record.specs.Header.{header_checks, first_wrong, head_of}
 use Rattle.ntfs_record.specs.Attribute.{end_kind, part_at, IsSoundAt}

@@ -1,7 +1,7 @@
 -- Where the fields of a file record and of its attributes stand: one reader for each field, with its offset and its size
 -- (the Linux-NTFS documentation, "File Record" and "Attribute Header"). The place of an attribute counts from the record's
 -- first byte, an offset within an attribute from the attribute's.
-use Rattle.std.specs.Prelude.{ℕ, ◌+◌, List, take, drop}
+use Rattle.std.specs.Prelude.{ℕ, ◌+◌, List}
 use Rattle.ntfs_base.specs.Bytes.{number_at}
 
 -- ---- the file record
@@ -115,7 +115,3 @@ size_at place bytes = number_at 8 (place + 0x30) bytes
 -- u64 at 0x38 of a non-resident attribute: the initialised size
 abbrev pub valid_at : ℕ → List ℕ → ℕ
 valid_at place bytes = number_at 8 (place + 0x38) bytes
-
--- so many bytes of a list from a place on, a word of our own
-unfoldable pub piece_at : ℕ → ℕ → List ℕ → List ℕ
-piece_at place count bytes = take count (drop place bytes)

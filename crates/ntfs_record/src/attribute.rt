@@ -43,7 +43,7 @@ pub struct AttributeView<'a> {
     pub body: Body<'a>,
 }
 
-#[tactic(auto, unfolding(crate::specs::Layout::piece_at))]
+#[tactic(auto, unfolding(ntfs_base::specs::Bytes::piece_at))]
 fn name_at<'a>(bytes: &'a [u8], place: usize) -> &'a [u8]
     requires within { layout.in_use_of bytes.now ≤ length bytes.now }
     requires sound { spec.IsSoundAt (layout.in_use_of bytes.now) place bytes.now }

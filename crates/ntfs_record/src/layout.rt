@@ -1,7 +1,7 @@
 //! The fields of a file record and of its attributes, by the names that the definitions give them.
 
 ghost use Rattle.std.specs.Prelude.{◌≡◌, ◌+◌, ◌≤◌, length};
-ghost use Rattle.ntfs_base.specs.Bytes.{number_at};
+ghost use Rattle.ntfs_base.specs.Bytes.{number_at, piece_at as piece_of};
 ghost use Rattle.ntfs_record.specs.Layout as spec;
 
 use byteorder::{ByteOrder, LittleEndian};
@@ -36,10 +36,10 @@ fn u64_at(bytes: &[u8], place: usize) -> u64
 }
 
 /// So many of the bytes, from a place on.
-#[tactic(auto, unfolding(crate::specs::Layout::piece_at))]
+#[tactic(auto, unfolding(ntfs_base::specs::Bytes::piece_at))]
 pub(crate) fn piece_at(bytes: &[u8], place: usize, count: usize) -> &[u8]
     requires { place + count ≤ length bytes.now }
-    ensures { result.now ≡ spec.piece_at place count bytes.now }
+    ensures { result.now ≡ piece_of place count bytes.now }
 {
     &bytes[place..place + count]
 }

@@ -10,8 +10,8 @@ use Rattle.ntfs_base.specs.declared.meaning.Missing.TheVariants as missing
 use Rattle.ntfs_show.specs.Reading.{block_of, live_block}
 use Rattle.ntfs_show.specs.declared.cat_fault.CatFault.TheVariants as cat
 use borrow.Rule.Slice.PartMut.{put_mid}
-use Rattle.ntfs_base.specs.Writes.{overwritten}
-use Rattle.ntfs_base.proofs.WritesLemmas.{put_mid-overwritten}
+use Rattle.ntfs_base.specs.Bytes.{overwrite}
+use Rattle.ntfs_base.proofs.OverwriteLemmas.{put_mid-overwrite}
 use Rattle.ntfs_base.specs.Bytes.{cluster_at, raw_of, stream}
 use Rattle.ntfs_base.proofs.BytesLemmas.{length-cluster_at, raw_of-within, take-drop-append, take-drop-take}
 use Rattle.ntfs_boot.specs.declared.geometry.Geometry.{Geometry}
@@ -96,9 +96,9 @@ pub place-below : (from k n m : ℕ) → 0 < k → 0 < m → from + m ≤ n * k 
 place-below from k n m some more within = grind arith
 
 put_is : (block part : List ℕ) (at count : ℕ) → at + count ≤ length block → length part ≡ count → put_mid at (at + count - at) block part ≡ take at block ++ (part ++ drop (at + count) block)
-unfolding overwritten
+unfolding overwrite
 put_is block part at count within long =
-    let whole = put_mid-overwritten at block part part (omega arith) refl in
+    let whole = put_mid-overwrite at block part part (omega arith) refl in
     ap (λ n. put_mid at (at + n - at) block part) (sym long) ∙ whole ∙ ap (λ n. take at block ++ (part ++ drop (at + n) block)) long
 
 pub length-put : (block part : List ℕ) (at count : ℕ) → at + count ≤ length block → length part ≡ count → length (put_mid at (at + count - at) block part) ≡ length block

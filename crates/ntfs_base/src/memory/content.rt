@@ -1,5 +1,6 @@
 use crate::calls::{Calls, Leaves, front, one_more};
 use crate::fault::{Failed, Faults, PutFault};
+use crate::in_place::overwrite;
 use std::alloc::Global;
 
 /// Bytes in memory, the calls on them, and how many of these have failed.
@@ -54,11 +55,11 @@ impl MemContent {
     {
         match self.calls.next() {
             None => {
-                overwrite(&mut self.bytes, at, bytes);
+                overwrite(&mut self.bytes, at as usize, bytes);
                 Ok(())
             }
             Some(Leaves::Asked) => {
-                overwrite(&mut self.bytes, at, bytes);
+                overwrite(&mut self.bytes, at as usize, bytes);
                 self.faults.writes = one_more(self.faults.writes);
                 Err(Failed)
             }
@@ -114,17 +115,8 @@ impl MemContent {
     }
 }
 
-ghost use Rattle.std.specs.Prelude.{◌≡◌, ◌<◌, ◌+◌, ◌≤◌, length, OnOk, OnErr, IfErr};
+ghost use Rattle.std.specs.Prelude.{◌≡◌, ◌<◌, length, OnOk, OnErr, IfErr};
 ghost use Rattle.ntfs_base.specs.Growth.{resized};
-ghost use Rattle.ntfs_base.specs.Writes.{overwritten};
-
-fn overwrite(content: &mut [u8], at: u64, bytes: &[u8])
-    requires { at + length bytes.now ≤ length content.old }
-    ensures { content.new ≡ overwritten (record { place = at; bytes = bytes.now }) content.old }
-{
-    let from = at as usize;
-    content[from..from + bytes.len()].copy_from_slice(bytes);
-}
 
 /// Cuts the bytes to a length, or extends them with zeros. Where memory is wanting they stay.
 #[tactic(auto, unfolding(crate::specs::Growth::resized))]
