@@ -16,24 +16,29 @@ take-take (suc n) (suc m) [] within = refl
 take-take (suc n) (suc m) (x ∷ xs) within = ap (λ rest. x ∷ rest) (take-take n m xs (omega arith))
 
 -- a part that ends within a front
-pub take-drop-take : {X : Type 0} (at n m : ℕ) (xs : List X) → at + n ≤ m → take n (drop at (take m xs)) ≡ take n (drop at xs)
+pub take-drop-take : {X : Type 0} (at n m : ℕ) (xs : List X) → at + n ≤ m
+    → take n (drop at (take m xs)) ≡ take n (drop at xs)
 take-drop-take at n m xs within =
     let parts : at + (m - at) ≡ m = omega arith in
     let front = drop-take at (m - at) xs in
     ap (take n) (rw parts at front) ∙ take-take n (m - at) (drop at xs) (omega arith)
 
 -- a part that ends within what stands in front of a rest
-pub take-drop-append : {X : Type 0} (at n : ℕ) (front rest : List X) → at + n ≤ length front → take n (drop at (front ++ rest)) ≡ take n (drop at front)
+pub take-drop-append : {X : Type 0} (at n : ℕ) (front rest : List X) → at + n ≤ length front
+    → take n (drop at (front ++ rest)) ≡ take n (drop at front)
 take-drop-append at n front rest within =
-    sym (take-drop-take at n (length front) (front ++ rest) within) ∙ ap (λ xs. take n (drop at xs)) (take-append_seam front rest)
+    sym (take-drop-take at n (length front) (front ++ rest) within)
+    ∙ ap (λ xs. take n (drop at xs)) (take-append_seam front rest)
 
 -- a number that ends within a front is read from the front
-pub number_at-take : (n place m : ℕ) (bytes : List ℕ) → place + n ≤ m → number_at n place (take m bytes) ≡ number_at n place bytes
+pub number_at-take : (n place m : ℕ) (bytes : List ℕ) → place + n ≤ m
+    → number_at n place (take m bytes) ≡ number_at n place bytes
 unfolding number_at
 number_at-take n place m bytes within = little_from-take place n m bytes within
 
 -- what stands behind a front plays no part
-pub number_at-append : (n place : ℕ) (front rest : List ℕ) → place + n ≤ length front → number_at n place (front ++ rest) ≡ number_at n place front
+pub number_at-append : (n place : ℕ) (front rest : List ℕ) → place + n ≤ length front
+    → number_at n place (front ++ rest) ≡ number_at n place front
 number_at-append n place front rest within =
     sym (number_at-take n place (place + n) (front ++ rest) (omega arith))
     ∙ ap (number_at n place) (take-append-le (place + n) front rest within)
@@ -60,19 +65,22 @@ unfolding number_at
 number_at-lt n place bytes are = little_from-lt place n bytes are
 
 -- a number that was written behind a front is read there
-pub number_at-bytes : (n x : ℕ) (front rest : List ℕ) → x < 256 ^ n → number_at n (length front) (front ++ little_bytes n x ++ rest) ≡ x
+pub number_at-bytes : (n x : ℕ) (front rest : List ℕ) → x < 256 ^ n
+    → number_at n (length front) (front ++ little_bytes n x ++ rest) ≡ x
 unfolding number_at
 number_at-bytes n x front rest fits =
     let behind = number_at-drop n 0 (length front) ((front ++ little_bytes n x) ++ rest) in
     let here : length front + 0 ≡ length front = omega arith in
-    let left : drop (length front) (front ++ (little_bytes n x ++ rest)) ≡ little_bytes n x ++ rest = drop-append_seam front (little_bytes n x ++ rest) in
+    let left : drop (length front) (front ++ (little_bytes n x ++ rest)) ≡ little_bytes n x ++ rest =
+    drop-append_seam front (little_bytes n x ++ rest) in
     let read = little_number-reads_back n x rest fits in
     sym (rw here at behind) ∙ rw (append_assoc, left) read
 
 -- the list of clusters in two parts
 pub stream-append : (f : ℕ → List ℕ) (front rest : List ℕ) → stream f (front ++ rest) ≡ stream f front ++ stream f rest
 stream-append f [] rest = refl
-stream-append f (k ∷ ks) rest = ap (λ s. f k ++ s) (stream-append f ks rest) ∙ sym (append_assoc (f k) (stream f ks) (stream f rest))
+stream-append f (k ∷ ks) rest =
+    ap (λ s. f k ++ s) (stream-append f ks rest) ∙ sym (append_assoc (f k) (stream f ks) (stream f rest))
 
 -- clusters that two functions give alike
 abbrev pub SameAt : (ℕ → List ℕ) → (ℕ → List ℕ) → List ℕ → Type 0
@@ -85,7 +93,8 @@ stream-same f g [] same = refl
 stream-same f g (k ∷ ks) same = let first = same.0 in let rest = stream-same f g ks same.1 in rw (first, rest) refl
 
 -- a cluster that ends within a front is the front's
-pub cluster_at-take : (image : List ℕ) (c k m : ℕ) → k * c + c ≤ m → cluster_at (take m image) c k ≡ cluster_at image c k
+pub cluster_at-take : (image : List ℕ) (c k m : ℕ) → k * c + c ≤ m
+    → cluster_at (take m image) c k ≡ cluster_at image c k
 unfolding cluster_at
 cluster_at-take image c k m within = take-drop-take (k * c) c m image within
 
@@ -95,19 +104,22 @@ unfolding cluster_at
 length-cluster_at image c k within = simp (length-take, length-drop) (omega arith)
 
 -- a piece that is there lies wholly in the bytes
-pub raw_of-some : (size r : ℕ) (bytes piece : List ℕ) → raw_of size bytes r ≡ Some piece → (r * size + size ≤ length bytes) × (take size (drop (r * size) bytes) ≡ piece)
+pub raw_of-some : (size r : ℕ) (bytes piece : List ℕ) → raw_of size bytes r ≡ Some piece
+    → (r * size + size ≤ length bytes) × (take size (drop (r * size) bytes) ≡ piece)
 unfolding raw_of
 raw_of-some size r bytes piece is =
     let found = cond_some (nat_le (r * size + size) (length bytes)) (take size (drop (r * size) bytes)) piece is in
     (leb-true _ _ found.0, found.1)
 
 -- what lies wholly in the bytes is a piece
-pub raw_of-within : (size r : ℕ) (bytes : List ℕ) → r * size + size ≤ length bytes → raw_of size bytes r ≡ Some (take size (drop (r * size) bytes))
+pub raw_of-within : (size r : ℕ) (bytes : List ℕ) → r * size + size ≤ length bytes
+    → raw_of size bytes r ≡ Some (take size (drop (r * size) bytes))
 unfolding raw_of
 raw_of-within size r bytes within = rw (le-leb (r * size + size) (length bytes) within) refl
 
 -- a piece of a front is a piece of the whole
-pub raw_of-append : (size r : ℕ) (front rest piece : List ℕ) → raw_of size front r ≡ Some piece → raw_of size (front ++ rest) r ≡ Some piece
+pub raw_of-append : (size r : ℕ) (front rest piece : List ℕ) → raw_of size front r ≡ Some piece
+    → raw_of size (front ++ rest) r ≡ Some piece
 raw_of-append size r front rest piece is =
     let found = raw_of-some size r front piece is in
     let same = take-drop-append (r * size) size front rest found.0 in
@@ -119,6 +131,8 @@ unfolding number_at
 number_at-byte place bytes = omega arith
 
 -- what `byteorder` reads at the front of a part of the bytes
-pub little_number-part : (n place m : ℕ) (bytes : List ℕ) → n ≤ m → little_number n (take m (drop place bytes)) ≡ number_at n place bytes
+pub little_number-part : (n place m : ℕ) (bytes : List ℕ) → n ≤ m
+    → little_number n (take m (drop place bytes)) ≡ number_at n place bytes
 unfolding number_at
-little_number-part n place m bytes within = number_at-take n 0 m (drop place bytes) (omega arith) ∙ little_number-drop n place bytes
+little_number-part n place m bytes within =
+    number_at-take n 0 m (drop place bytes) (omega arith) ∙ little_number-drop n place bytes

@@ -1,4 +1,5 @@
--- The calls of a device in memory: they are numbered from 1 on, and a list says which of them are to fail. The words are ours.
+-- The calls of a device in memory: they are numbered from 1 on, and a list says which of them are to fail. The words
+-- are ours.
 use Rattle.std.specs.Prelude.{◌≡◌, ◌+◌, ◌==◌, ℕ, List, [], ◌∷◌, take, Option, Some, None, Result, is_err, is_some, nat_lt, if◌then◌else◌}
 use Rattle.ntfs_base.specs.Causes.{last_count}
 use Rattle.ntfs_base.specs.declared.calls.Calls.{Calls}

@@ -10,7 +10,8 @@ use Rattle.ntfs_base.specs.declared.fault.SinkFaults.{SinkFaults}
 
 -- a file of which so many bytes were given
 abbrev pub source_of : ImageState → ℕ → SourceState
-source_of file given = record { is_told = file.is_told; bytes = file.content; given = if file.is_told then given else 0; name = file.name }
+source_of file given =
+    record { is_told = file.is_told; bytes = file.content; given = if file.is_told then given else 0; name = file.name }
 
 -- a file that takes bytes at its end
 abbrev pub sink_of : ImageState → SinkState

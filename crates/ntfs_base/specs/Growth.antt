@@ -10,11 +10,16 @@ resized len content = take len content ++ replicate (len - length content) 0
 
 -- the file at another length: all but its content and its length as before
 unfoldable pub after_set_len : ℕ → ImageState → ImageState
-after_set_len len file = record file { content = if file.is_told then resized len file.content else file.content; size = len }
+after_set_len len file =
+    record file { content = if file.is_told then resized len file.content else file.content; size = len }
 
 -- the file with these bytes at its end: all but its content and its length as before
 unfoldable pub after_append : List ℕ → ImageState → ImageState
-after_append bytes file = record file { content = if file.is_told then file.content ++ bytes else file.content; size = file.size + length bytes }
+after_append bytes file =
+    record file {
+      content = if file.is_told then file.content ++ bytes else file.content;
+      size = file.size + length bytes;
+    }
 
 -- a call that had to set this length did so, or, where it failed, did so or left all as before
 pub record SetLength {T E : Type 0} (len : ℕ) (old : ImageState) (result : Result T E) (new : ImageState) : Type 0 where
@@ -22,7 +27,8 @@ pub record SetLength {T E : Type 0} (len : ℕ) (old : ImageState) (result : Res
   pub part : OnErr result ((new ≡ old) ⊎ (new ≡ after_set_len len old))
 
 -- a call that had to append these bytes appended all of them, or, where it failed, a front
-pub record Appended {T E : Type 0} (bytes : List ℕ) (old : ImageState) (result : Result T E) (new : ImageState) : Type 0 where
+pub record Appended {T E : Type 0} (bytes : List ℕ) (old : ImageState) (result : Result T E) (new : ImageState) : Type
+    0 where
   pub whole : OnOk result (new ≡ after_append bytes old)
   pub part : OnErr result ((k : ℕ) × (k ≤ length bytes) × (new ≡ after_append (take k bytes) old))
 

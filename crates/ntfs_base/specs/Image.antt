@@ -1,4 +1,5 @@
--- What contracts see of an image: its bytes where it tells them, and what no call of `Image` changes. The words are ours.
+-- What contracts see of an image: its bytes where it tells them, and what no call of `Image` changes. The words are
+-- ours.
 use Rattle.std.specs.Prelude.{◌≡◌, ℕ, Bool, List, length, IsTrue}
 
 pub record ImageState : Type 0 where

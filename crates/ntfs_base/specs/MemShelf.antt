@@ -22,7 +22,8 @@ place_of name (p ∷ ps) = if bytes_eq name (string_bytes p.name) then Some p el
 -- and where it stands
 abbrev pub index_of : List ℕ → List Place → Option ℕ
 index_of name [] = None
-index_of name (p ∷ ps) = if bytes_eq name (string_bytes p.name) then Some 0 else option_map (λ i. i + 1) (index_of name ps)
+index_of name (p ∷ ps) =
+    if bytes_eq name (string_bytes p.name) then Some 0 else option_map (λ i. i + 1) (index_of name ps)
 
 -- the bytes of a place, where it has a file
 abbrev pub bytes_of : Place → Option (List ℕ)
@@ -57,24 +58,32 @@ failing_by (Some p) = p.calls.failing.items
 abbrev pub next_failing_by : Option Place → Option Leaves
 next_failing_by p = failing_at (one_more (made_by p)) (failing_by p)
 
--- an attach fails exactly where the list says so, unless memory is wanting; it is a call under its name, and the file that
+-- an attach fails exactly where the list says so, unless memory is wanting; it is a call under its name, and the file
+-- that
 -- it hands out gets that name's count and list
 abbrev pub AttachesAsPlanned : Option Place → Result MemFile ShelfFault → Option Place → Type 0
 AttachesAsPlanned old (Ok file) new =
-    (next_failing_by old ≡ None) × (file.inside.calls.made ≡ one_more (made_by old)) × (file.inside.calls.failing.items ≡ failing_by old)
-AttachesAsPlanned old (Err fault.Absent) new = (next_failing_by old ≡ None) × (made_by new ≡ one_more (made_by old)) × (failing_by new ≡ failing_by old)
-AttachesAsPlanned old (Err fault.Failed) new = (is_some (next_failing_by old) ≡ true) × (made_by new ≡ one_more (made_by old)) × (failing_by new ≡ failing_by old)
+    (next_failing_by old ≡ None) × (file.inside.calls.made ≡ one_more (made_by old))
+    × (file.inside.calls.failing.items ≡ failing_by old)
+AttachesAsPlanned old (Err fault.Absent) new =
+    (next_failing_by old ≡ None) × (made_by new ≡ one_more (made_by old)) × (failing_by new ≡ failing_by old)
+AttachesAsPlanned old (Err fault.Failed) new =
+    (is_some (next_failing_by old) ≡ true) × (made_by new ≡ one_more (made_by old)) × (failing_by new ≡ failing_by old)
 AttachesAsPlanned old (Err fault.Present) new = ⊥
 AttachesAsPlanned old (Err fault.NoMemory) new = failing_by new ≡ failing_by old
 
--- a create fails exactly where the list says so, unless memory is wanting; it is a call under its name, and the file that it
+-- a create fails exactly where the list says so, unless memory is wanting; it is a call under its name, and the file
+-- that it
 -- hands out gets that name's count and list
 abbrev pub CreatesAsPlanned : Option Place → Result MemFile ShelfFault → Option Place → Type 0
 CreatesAsPlanned old (Ok file) new =
-    (next_failing_by old ≡ None) × (file.inside.calls.made ≡ one_more (made_by old)) × (file.inside.calls.failing.items ≡ failing_by old)
+    (next_failing_by old ≡ None) × (file.inside.calls.made ≡ one_more (made_by old))
+    × (file.inside.calls.failing.items ≡ failing_by old)
 CreatesAsPlanned old (Err fault.Absent) new = ⊥
-CreatesAsPlanned old (Err fault.Present) new = (next_failing_by old ≡ None) × (made_by new ≡ one_more (made_by old)) × (failing_by new ≡ failing_by old)
-CreatesAsPlanned old (Err fault.Failed) new = (is_some (next_failing_by old) ≡ true) × (made_by new ≡ one_more (made_by old)) × (failing_by new ≡ failing_by old)
+CreatesAsPlanned old (Err fault.Present) new =
+    (next_failing_by old ≡ None) × (made_by new ≡ one_more (made_by old)) × (failing_by new ≡ failing_by old)
+CreatesAsPlanned old (Err fault.Failed) new =
+    (is_some (next_failing_by old) ≡ true) × (made_by new ≡ one_more (made_by old)) × (failing_by new ≡ failing_by old)
 CreatesAsPlanned old (Err fault.NoMemory) new = failing_by new ≡ failing_by old
 
 -- a file as it is made under a name: empty, and with no fault yet
@@ -109,9 +118,11 @@ pub record KeepsFiles (name : List ℕ) (old new : List Place) : Type 0 where
   pub others : KeepsOthers name old new
   pub places : KeepsPlaces old new
 
--- a file of this name is made, which is empty; after a refusal no file is another. The places of all other names stay, and
+-- a file of this name is made, which is empty; after a refusal no file is another. The places of all other names stay,
+-- and
 -- none goes
-pub record CreatesFile {T E : Type 0} (name : List ℕ) (old : List Place) (result : Result T E) (new : List Place) : Type 0 where
+pub record CreatesFile {T E : Type 0} (name : List ℕ) (old : List Place) (result : Result T E) (new : List Place) :
+    Type 0 where
   pub created : OnOk result (files_of new ≡ files.insert (files_of old) name [])
   pub refused : OnErr result (files_of new ≡ files_of old)
   pub others : KeepsOthers name old new

@@ -9,17 +9,20 @@ use Rattle.ntfs_base.specs.declared.memory.sink.MemSink.{MemSink}
 
 -- its bytes are told
 abbrev pub seen_source : MemSource → SourceState
-seen_source source = record { is_told = true; bytes = source.bytes.items; given = source.given; name = source.name.items }
+seen_source source =
+    record { is_told = true; bytes = source.bytes.items; given = source.given; name = source.name.items }
 
 -- its content is told
 abbrev pub seen_sink : MemSink → SinkState
 seen_sink sink = record { is_told = true; content = sink.content.items; name = sink.name.items }
 
--- a put fails exactly where the list says so, with the bytes that the list names, unless memory is wanting; and its fault
+-- a put fails exactly where the list says so, with the bytes that the list names, unless memory is wanting; and its
+-- fault
 -- is counted
 abbrev pub PutsAsPlanned : List ℕ → MemSink → Result (Unit {0}) PutFault → MemSink → Type 0
 PutsAsPlanned bytes old (Ok done) new = (next_failing old.calls ≡ None) × (new.faults ≡ old.faults)
 PutsAsPlanned bytes old (Err put.Failed) new =
-    (is_some (next_failing old.calls) ≡ true) × (new.content.items ≡ old.content.items ++ front_by (next_failing old.calls) bytes)
+    (is_some (next_failing old.calls) ≡ true)
+    × (new.content.items ≡ old.content.items ++ front_by (next_failing old.calls) bytes)
     × (new.faults ≡ record old.faults { failures = one_more old.faults.failures })
 PutsAsPlanned bytes old (Err put.NoMemory) new = new.faults ≡ record old.faults { wants = one_more old.faults.wants }

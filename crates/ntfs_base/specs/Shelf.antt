@@ -58,7 +58,8 @@ after_release file shelf = record shelf {
 abbrev pub added_count : ℕ → ℕ → ℕ
 added_count old more = min last_count (old + more)
 
--- a file as it is handed out: under the name that was asked, over no other image, told as the shelf is, with the bytes of
+-- a file as it is handed out: under the name that was asked, over no other image, told as the shelf is, with the bytes
+-- of
 -- the shelf's file where they are told, and with no fault yet
 pub record IsHandedOut (shelf : ShelfState) (asked : List ℕ) (file : ImageState) (faults : Faults) : Type 0 where
   pub bears : file.name ≡ asked
@@ -75,9 +76,11 @@ AttachCause fault.Present shelf asked old new = ⊥
 AttachCause fault.Failed shelf asked old new = Rose old.reads new.reads
 AttachCause fault.NoMemory shelf asked old new = Unit {0}
 
--- a file as it is made: under the name that was asked, over no other image, told as the shelf is, empty, and with no fault
+-- a file as it is made: under the name that was asked, over no other image, told as the shelf is, empty, and with no
+-- fault
 -- yet; where it had to be new, there was none of that name
-pub record IsCreated (shelf : ShelfState) (asked : List ℕ) (must_be_new : Bool) (file : ImageState) (faults : Faults) : Type 0 where
+pub record IsCreated (shelf : ShelfState) (asked : List ℕ) (must_be_new : Bool) (file : ImageState) (faults : Faults)
+    : Type 0 where
   pub bears : file.name ≡ asked
   pub alone : file.lower ≡ []
   pub told : file.is_told ≡ shelf.is_told
@@ -87,9 +90,11 @@ pub record IsCreated (shelf : ShelfState) (asked : List ℕ) (must_be_new : Bool
   pub reads : faults.reads ≡ 0
   pub writes : faults.writes ≡ 0
 
--- why a file wasn't made: it had to be new and there is one of that name, or the count of writes rose; want of memory is free
+-- why a file wasn't made: it had to be new and there is one of that name, or the count of writes rose; want of memory
+-- is free
 abbrev pub CreateCause : ShelfFault → ShelfState → List ℕ → Bool → Faults → Faults → Type 0
 CreateCause fault.Absent shelf asked must_be_new old new = ⊥
-CreateCause fault.Present shelf asked must_be_new old new = IsTrue must_be_new × (IsTrue shelf.is_told → IsSome (file_of shelf.files asked))
+CreateCause fault.Present shelf asked must_be_new old new =
+    IsTrue must_be_new × (IsTrue shelf.is_told → IsSome (file_of shelf.files asked))
 CreateCause fault.Failed shelf asked must_be_new old new = Rose old.writes new.writes
 CreateCause fault.NoMemory shelf asked must_be_new old new = Unit {0}

@@ -15,12 +15,14 @@ content_after (w ∷ ws) content = content_after ws (overwrite w.place w.bytes c
 
 -- the image as it is after the writes: all but its content as before
 unfoldable pub after_writes : List Write → ImageState → ImageState
-after_writes ws image = record image { content = if image.is_told then content_after ws image.content else image.content }
+after_writes ws image =
+    record image { content = if image.is_told then content_after ws image.content else image.content }
 
 -- a call that had to make these writes made all of them, or, where it failed, those of a front
-pub record Wrote {T E : Type 0} (ws : List Write) (old : ImageState) (result : Result T E) (new : ImageState) : Type 0 where
-  pub whole : OnOk result (new ≡ after_writes ws old)
-  pub part : OnErr result ((k : ℕ) × (k ≤ length ws) × (new ≡ after_writes (take k ws) old))
+pub record Wrote {T E : Type 0} (ws : List Write) (old : ImageState) (result : Result T E) (new : ImageState) : Type 0
+  where
+    pub whole : OnOk result (new ≡ after_writes ws old)
+    pub part : OnErr result ((k : ℕ) × (k ≤ length ws) × (new ≡ after_writes (take k ws) old))
 
 -- whether a write has the byte at a place
 abbrev pub has_byte : Write → ℕ → Bool
@@ -29,7 +31,8 @@ has_byte w place = nat_le w.place place && nat_lt (place - w.place) (length w.by
 -- the byte at a place: that of the last write that has it, and otherwise the given one
 abbrev pub byte_from : List Write → ℕ → ℕ → ℕ
 byte_from [] place byte = byte
-byte_from (w ∷ ws) place byte = byte_from ws place (if has_byte w place then slice_index w.bytes (place - w.place) else byte)
+byte_from (w ∷ ws) place byte =
+    byte_from ws place (if has_byte w place then slice_index w.bytes (place - w.place) else byte)
 
 -- two writes of which one ends before the other begins
 abbrev pub IsApart : Write → Write → Type 0

@@ -6,7 +6,8 @@ use Rattle.ntfs_base.proofs.names.remove_name.Goals as goal
 pub returns-then-is_named : goal.returns-then-is_named
 returns-then-is_named c =
     let within : c.names.index < length c.names.names.items = search rules in
-    without_text c.args.name.now c.names.names.items c.remove.new.self.items c.names.index _ within c.index.ensures (sym c.is_named.ensures ∙ c.if-is_named.true) c.remove.ensures.items c.names.invariant.1
+    without_text c.args.name.now c.names.names.items c.remove.new.self.items c.names.index _ within c.index.ensures
+    (sym c.is_named.ensures ∙ c.if-is_named.true) c.remove.ensures.items c.names.invariant.1
     ∙ ap (λ names. without c.args.name.now (map string_bytes names.items)) c.names.invariant.0
 
 pub names-preserved : goal.names-preserved

@@ -7,4 +7,5 @@ pub release-requires : goal.release-requires
 release-requires g c =
     ap (λ name. has_name name (g.S.Shelf.seen c.attach.new.self).attached) (c.write-two.ensures ∙ c.write-one.ensures)
     ∙ ap (λ shelf. has_name (g.S.File.Image.seen c.in_ok-file.file).name shelf.attached) c.in_ok-file.ensures.attached
-    ∙ has_name-attached c.args.name.now (g.S.Shelf.seen c.args.shelf.now) (g.S.File.Image.seen c.in_ok-file.file) c.in_ok-file.ensures.file.bears
+    ∙ has_name-attached c.args.name.now (g.S.Shelf.seen c.args.shelf.now) (g.S.File.Image.seen c.in_ok-file.file)
+    c.in_ok-file.ensures.file.bears

@@ -11,14 +11,24 @@ index_mut-requires c =
 
 pub returns : goal.returns
 returns c =
-    let was = named_there c.args.name.now c.args.places.now.items c.args.index c.index_mut.result.now c.requires c.index_mut.ensures.value in
+    let was =
+    named_there c.args.name.now c.args.places.now.items c.args.index c.index_mut.result.now c.requires
+    c.index_mut.ensures.value in
     let named = ap string_bytes c.hand_out.ensures.name ∙ was in
-    let before = place_of-there c.args.name.now c.args.places.now.items c.args.index c.index_mut.result.now c.requires c.index_mut.ensures.value in
-    let file = file_there c.args.name.now c.args.places.now.items c.args.index c.index_mut.result.now c.requires c.index_mut.ensures.value in
-    let is = λ (q : List ℕ). place_of-set c.args.name.now q c.args.places.now.items c.args.index c.hand_out.new.place c.requires named in
+    let before =
+    place_of-there c.args.name.now c.args.places.now.items c.args.index c.index_mut.result.now c.requires
+    c.index_mut.ensures.value in
+    let file =
+    file_there c.args.name.now c.args.places.now.items c.args.index c.index_mut.result.now c.requires
+    c.index_mut.ensures.value in
+    let is =
+    λ (q : List ℕ). place_of-set c.args.name.now q c.args.places.now.items c.args.index c.hand_out.new.place
+    c.requires named in
     let after = place_there _ _ _ _ named is in
     record {
-      files = kept_by_set _ _ _ _ named is (ap (option_map (λ v. v.items)) c.hand_out.ensures.content ∙ sym (ap (option_and_then bytes_of) before));
+      files =
+          kept_by_set _ _ _ _ named is
+          (ap (option_map (λ v. v.items)) c.hand_out.ensures.content ∙ sym (ap (option_and_then bytes_of) before));
       planned = rw (before, after) c.hand_out.ensures.planned;
       placed = ap is_some after;
       bears = IfOk-then _ _ c.hand_out.result (λ file is. is ∙ was) c.hand_out.ensures.bears;

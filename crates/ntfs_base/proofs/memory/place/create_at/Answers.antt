@@ -11,14 +11,23 @@ index_mut-requires c =
 
 pub returns : goal.returns
 returns c =
-    let was = named_there c.args.name.now c.args.places.now.items c.args.index c.index_mut.result.now c.requires c.index_mut.ensures.value in
+    let was =
+    named_there c.args.name.now c.args.places.now.items c.args.index c.index_mut.result.now c.requires
+    c.index_mut.ensures.value in
     let named = ap string_bytes c.make.ensures.name ∙ was in
-    let before = place_of-there c.args.name.now c.args.places.now.items c.args.index c.index_mut.result.now c.requires c.index_mut.ensures.value in
-    let file = file_there c.args.name.now c.args.places.now.items c.args.index c.index_mut.result.now c.requires c.index_mut.ensures.value in
-    let is = λ (q : List ℕ). place_of-set c.args.name.now q c.args.places.now.items c.args.index c.make.new.place c.requires named in
+    let before =
+    place_of-there c.args.name.now c.args.places.now.items c.args.index c.index_mut.result.now c.requires
+    c.index_mut.ensures.value in
+    let file =
+    file_there c.args.name.now c.args.places.now.items c.args.index c.index_mut.result.now c.requires
+    c.index_mut.ensures.value in
+    let is =
+    λ (q : List ℕ). place_of-set c.args.name.now q c.args.places.now.items c.args.index c.make.new.place c.requires
+    named in
     let after = place_there _ _ _ _ named is in
     record {
-      files = created_by_set _ _ _ _ c.make.result named is c.make.ensures.created (OnErr-then _ _ c.make.result (λ same. ap (option_map (λ v. v.items)) same ∙ sym (ap (option_and_then bytes_of) before)) c.make.ensures.refused);
+      files =
+          created_by_set _ _ _ _ c.make.result named is c.make.ensures.created (OnErr-then _ _ c.make.result (λ same. ap (option_map (λ v. v.items)) same ∙ sym (ap (option_and_then bytes_of) before)) c.make.ensures.refused);
       planned = rw (before, after) c.make.ensures.planned;
       placed = ap is_some after;
       file = subst (λ name. IfOk c.make.result (IsEmptyFile name)) was c.make.ensures.file;

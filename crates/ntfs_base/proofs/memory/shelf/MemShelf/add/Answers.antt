@@ -4,7 +4,11 @@ use Rattle.ntfs_base.proofs.memory.shelf.MemShelf.add.Goals as goal
 
 pub invariant_of-self : goal.invariant_of-self
 invariant_of-self c =
-    record { held = all_placed-kept c.args.self.now.places.items c.index_for.new.places.items (map string_bytes c.args.self.now.attached.items) c.index_for.ensures.files.places c.args.self.now.held }
+    record {
+      held =
+          all_placed-kept c.args.self.now.places.items c.index_for.new.places.items
+          (map string_bytes c.args.self.now.attached.items) c.index_for.ensures.files.places c.args.self.now.held;
+    }
 
 pub put_back-requires : goal.put_back-requires
 put_back-requires c = is_some-place_of c.args.name.now c.index_for.new.places.items _ c.in_ok-index_for.ensures.found
@@ -12,6 +16,8 @@ put_back-requires c = is_some-place_of c.args.name.now c.index_for.new.places.it
 pub invariant_of-self-2 : goal.invariant_of-self-2
 invariant_of-self-2 c =
     record {
-      held = all_placed-kept c.index_for.new.places.items c.put_back.new.places.items (map string_bytes c.args.self.now.attached.items) c.put_back.ensures.kept
+      held =
+          all_placed-kept c.index_for.new.places.items c.put_back.new.places.items
+          (map string_bytes c.args.self.now.attached.items) c.put_back.ensures.kept
           (all_placed-kept c.args.self.now.places.items c.index_for.new.places.items (map string_bytes c.args.self.now.attached.items) c.index_for.ensures.files.places c.args.self.now.held);
     }

@@ -4,4 +4,5 @@ use Rattle.ntfs_base.proofs.ShelfLemmas.{place_of-none}
 use Rattle.ntfs_base.proofs.memory.shelf.MemShelf.made.Goals as goal
 
 pub returns-in-None : goal.returns-in-None
-returns-in-None c = sym (ap made_by (place_of-none c.args.name.now c.args.self.now.places.items (ap (index_of c.args.name.now) (sym c.deref.ensures.value) ∙ sym c.in-None.ensures)))
+returns-in-None c =
+    sym (ap made_by (place_of-none c.args.name.now c.args.self.now.places.items (ap (index_of c.args.name.now) (sym c.deref.ensures.value) ∙ sym c.in-None.ensures)))

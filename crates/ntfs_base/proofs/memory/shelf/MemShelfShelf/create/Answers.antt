@@ -7,7 +7,8 @@ pub invariant_of-self-in-Ok : goal.invariant_of-self-in-Ok
 invariant_of-self-in-Ok c =
     let names : c.insert.new.self.items ≡ c.in_ok-text.text ∷ c.args.self.now.attached.items = search rules in
     let here : is_some (place_of (string_bytes c.in_ok-text.text) c.create_in.new.places.items) ≡ true =
-    ap (λ name. is_some (place_of name c.create_in.new.places.items)) c.in_ok-text.ensures.ok ∙ c.in-Ok.ensures.placed in
+    ap (λ name. is_some (place_of name c.create_in.new.places.items)) c.in_ok-text.ensures.ok
+    ∙ c.in-Ok.ensures.placed in
     record {
       held = ap (λ items. all_placed c.create_in.new.places.items (map string_bytes items)) names
           ∙ all_placed-cons c.create_in.new.places.items (string_bytes c.in_ok-text.text) (map string_bytes c.args.self.now.attached.items) here (all_placed-kept c.args.self.now.places.items c.create_in.new.places.items (map string_bytes c.args.self.now.attached.items) c.in-Ok.ensures.files.places c.args.self.now.held);
@@ -21,6 +22,8 @@ returns-in-Ok-clause-created c =
 pub invariant_of-self-in-Absent-1 : goal.invariant_of-self-in-Absent-1
 invariant_of-self-in-Absent-1 c =
     record {
-      held = ap (λ items. all_placed c.create_in.new.places.items (map string_bytes items)) c.in_ok-reserve.ensures.items
-          ∙ all_placed-kept c.args.self.now.places.items c.create_in.new.places.items (map string_bytes c.args.self.now.attached.items) c.in-Err.ensures.files.places c.args.self.now.held;
+      held =
+          ap (λ items. all_placed c.create_in.new.places.items (map string_bytes items)) c.in_ok-reserve.ensures.items
+          ∙ all_placed-kept c.args.self.now.places.items c.create_in.new.places.items
+          (map string_bytes c.args.self.now.attached.items) c.in-Err.ensures.files.places c.args.self.now.held;
     }

@@ -8,7 +8,8 @@ use Rattle.ntfs_base.proofs.memory.shelf.MemShelfShelf.release.Goals as goal
 pub put_back-requires : goal.put_back-requires
 put_back-requires c =
     ap (λ name. is_some (place_of name c.args.self.now.places.items)) c.as_str.ensures.value
-    ∙ all_placed-has c.args.self.now.places.items (string_bytes c.args.file.name) (map string_bytes c.args.self.now.attached.items) c.args.self.now.held c.requires
+    ∙ all_placed-has c.args.self.now.places.items (string_bytes c.args.file.name)
+    (map string_bytes c.args.self.now.attached.items) c.args.self.now.held c.requires
 
 pub invariant_of-self : goal.invariant_of-self
 invariant_of-self c =
