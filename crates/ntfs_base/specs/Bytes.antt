@@ -1,8 +1,6 @@
--- How every crate reads bytes: numbers and pieces at a place, the bytes of a cluster, of a list of clusters, and of the
--- r-th
--- piece of a size; and bytes that are put at a place. A list of bytes is a list of numbers below 256. All numbers of
--- NTFS on
--- disk are little-endian (the Linux-NTFS documentation, "Concepts"); the words are ours.
+-- How every crate reads bytes: numbers and pieces at a place, the bytes of a cluster, of a list of clusters, and of
+-- the r-th piece of a size; and bytes that are put at a place. A list of bytes is a list of numbers below 256. All
+-- numbers of NTFS on disk are little-endian (the Linux-NTFS documentation, "Concepts"); the words are ours.
 use Rattle.std.specs.Prelude.{◌≡◌, ◌<◌, ◌^◌, ◌+◌, ◌*◌, ℕ, List, [], ◌∷◌, ◌++◌, length, map, take, drop, slice_index, Option, Some, None, nat_le, if◌then◌else◌}
 use Rattle.std.specs.List.{Contains}
 use Rattle.byteorder.specs.Endian.{little_from}

@@ -27,8 +27,8 @@ pub record SetLength {T E : Type 0} (len : ℕ) (old : ImageState) (result : Res
   pub part : OnErr result ((new ≡ old) ⊎ (new ≡ after_set_len len old))
 
 -- a call that had to append these bytes appended all of them, or, where it failed, a front
-pub record Appended {T E : Type 0} (bytes : List ℕ) (old : ImageState) (result : Result T E) (new : ImageState) : Type
-    0 where
+pub record Appended {T E : Type 0} (bytes : List ℕ) (old : ImageState) (result : Result T E) (new : ImageState)
+    : Type 0 where
   pub whole : OnOk result (new ≡ after_append bytes old)
   pub part : OnErr result ((k : ℕ) × (k ≤ length bytes) × (new ≡ after_append (take k bytes) old))
 

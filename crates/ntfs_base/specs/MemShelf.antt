@@ -59,8 +59,7 @@ abbrev pub next_failing_by : Option Place → Option Leaves
 next_failing_by p = failing_at (one_more (made_by p)) (failing_by p)
 
 -- an attach fails exactly where the list says so, unless memory is wanting; it is a call under its name, and the file
--- that
--- it hands out gets that name's count and list
+-- that it hands out gets that name's count and list
 abbrev pub AttachesAsPlanned : Option Place → Result MemFile ShelfFault → Option Place → Type 0
 AttachesAsPlanned old (Ok file) new =
     (next_failing_by old ≡ None) × (file.inside.calls.made ≡ one_more (made_by old))
@@ -73,8 +72,7 @@ AttachesAsPlanned old (Err fault.Present) new = ⊥
 AttachesAsPlanned old (Err fault.NoMemory) new = failing_by new ≡ failing_by old
 
 -- a create fails exactly where the list says so, unless memory is wanting; it is a call under its name, and the file
--- that it
--- hands out gets that name's count and list
+-- that it hands out gets that name's count and list
 abbrev pub CreatesAsPlanned : Option Place → Result MemFile ShelfFault → Option Place → Type 0
 CreatesAsPlanned old (Ok file) new =
     (next_failing_by old ≡ None) × (file.inside.calls.made ≡ one_more (made_by old))
@@ -119,10 +117,9 @@ pub record KeepsFiles (name : List ℕ) (old new : List Place) : Type 0 where
   pub places : KeepsPlaces old new
 
 -- a file of this name is made, which is empty; after a refusal no file is another. The places of all other names stay,
--- and
--- none goes
-pub record CreatesFile {T E : Type 0} (name : List ℕ) (old : List Place) (result : Result T E) (new : List Place) :
-    Type 0 where
+-- and none goes
+pub record CreatesFile {T E : Type 0} (name : List ℕ) (old : List Place) (result : Result T E) (new : List Place)
+    : Type 0 where
   pub created : OnOk result (files_of new ≡ files.insert (files_of old) name [])
   pub refused : OnErr result (files_of new ≡ files_of old)
   pub others : KeepsOthers name old new

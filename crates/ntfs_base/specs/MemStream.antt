@@ -17,8 +17,7 @@ abbrev pub seen_sink : MemSink → SinkState
 seen_sink sink = record { is_told = true; content = sink.content.items; name = sink.name.items }
 
 -- a put fails exactly where the list says so, with the bytes that the list names, unless memory is wanting; and its
--- fault
--- is counted
+-- fault is counted
 abbrev pub PutsAsPlanned : List ℕ → MemSink → Result (Unit {0}) PutFault → MemSink → Type 0
 PutsAsPlanned bytes old (Ok done) new = (next_failing old.calls ≡ None) × (new.faults ≡ old.faults)
 PutsAsPlanned bytes old (Err put.Failed) new =

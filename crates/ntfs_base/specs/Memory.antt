@@ -22,8 +22,8 @@ pub record ReadsMemory {T E : Type 0} (old : MemContent) (result : Result T E) (
   pub writes : new.faults.writes ≡ old.faults.writes
 
 -- a write does what is asked, or fails as planned, leaves what the plan says, and counts its fault
-pub record WritesMemory {T E : Type 0} (w : Write) (old : MemContent) (result : Result T E) (new : MemContent) : Type
-    0 where
+pub record WritesMemory {T E : Type 0} (w : Write) (old : MemContent) (result : Result T E) (new : MemContent)
+    : Type 0 where
   pub whole : OnOk result (new.bytes.items ≡ overwrite w.place w.bytes old.bytes.items)
   pub part : OnErr result
       (new.bytes.items ≡ left_by (next_failing old.calls) old.bytes.items (overwrite w.place w.bytes old.bytes.items))

@@ -59,8 +59,7 @@ abbrev pub added_count : ℕ → ℕ → ℕ
 added_count old more = min last_count (old + more)
 
 -- a file as it is handed out: under the name that was asked, over no other image, told as the shelf is, with the bytes
--- of
--- the shelf's file where they are told, and with no fault yet
+-- of the shelf's file where they are told, and with no fault yet
 pub record IsHandedOut (shelf : ShelfState) (asked : List ℕ) (file : ImageState) (faults : Faults) : Type 0 where
   pub bears : file.name ≡ asked
   pub alone : file.lower ≡ []
@@ -77,8 +76,7 @@ AttachCause fault.Failed shelf asked old new = Rose old.reads new.reads
 AttachCause fault.NoMemory shelf asked old new = Unit {0}
 
 -- a file as it is made: under the name that was asked, over no other image, told as the shelf is, empty, and with no
--- fault
--- yet; where it had to be new, there was none of that name
+-- fault yet; where it had to be new, there was none of that name
 pub record IsCreated (shelf : ShelfState) (asked : List ℕ) (must_be_new : Bool) (file : ImageState) (faults : Faults)
     : Type 0 where
   pub bears : file.name ≡ asked

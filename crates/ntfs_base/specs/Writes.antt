@@ -19,10 +19,10 @@ after_writes ws image =
     record image { content = if image.is_told then content_after ws image.content else image.content }
 
 -- a call that had to make these writes made all of them, or, where it failed, those of a front
-pub record Wrote {T E : Type 0} (ws : List Write) (old : ImageState) (result : Result T E) (new : ImageState) : Type 0
-  where
-    pub whole : OnOk result (new ≡ after_writes ws old)
-    pub part : OnErr result ((k : ℕ) × (k ≤ length ws) × (new ≡ after_writes (take k ws) old))
+pub record Wrote {T E : Type 0} (ws : List Write) (old : ImageState) (result : Result T E) (new : ImageState)
+    : Type 0 where
+  pub whole : OnOk result (new ≡ after_writes ws old)
+  pub part : OnErr result ((k : ℕ) × (k ≤ length ws) × (new ≡ after_writes (take k ws) old))
 
 -- whether a write has the byte at a place
 abbrev pub has_byte : Write → ℕ → Bool
