@@ -4,9 +4,9 @@ use Rattle.std.specs.Prelude.{IsTrue}
 use Rattle.std.specs.Option.{option_map, ok_or}
 use Rattle.ntfs_base.specs.Frames.{Origin, IsSettled, Gives, Puts, IfTold, refused_as, without_bytes, bytes_in}
 use Rattle.ntfs_base.specs.Image.{ImageState}
-use Rattle.ntfs_base.specs.Stream.{SinkState, after_put}
+use Rattle.ntfs_base.specs.Sink.{SinkState, after_put}
 use Rattle.ntfs_base.specs.declared.image.Image as image
-use Rattle.ntfs_base.proofs.StreamLemmas.{after_put-nil}
+use Rattle.ntfs_base.proofs.SinkLemmas.{after_put-nil}
 
 pub gives_same : {T E : Type 0} (origin : E → Origin) (expected result : Result T E) → expected ≡ result → Gives origin (λ x. x) expected result
 gives_same origin expected (Ok x) is = is

@@ -3,7 +3,7 @@ use Rattle.std.proofs.Common.{◌≡◌, ℕ, List, length, take, refl, ap, ◌�
 use Rattle.std.proofs.lemmas.List.{length-take, length-replicate}
 use Rattle.ntfs_base.specs.FileStream.{sink_of}
 use Rattle.ntfs_base.specs.Image.{ImageState}
-use Rattle.ntfs_base.specs.Stream.{Put, after_put}
+use Rattle.ntfs_base.specs.Sink.{Put, after_put}
 use Rattle.ntfs_base.specs.Growth.{resized, after_set_len, after_append, SetLength, Appended}
 
 -- a content at another length has it

@@ -3,7 +3,7 @@ pub mod PieceLemmas
 pub mod OverwriteLemmas
 pub mod WritesLemmas
 pub mod GrowthLemmas
-pub mod StreamLemmas
+pub mod SinkLemmas
 pub mod MemoryLemmas
 pub mod ShelfLemmas
 pub mod AttachLemmas

@@ -10,7 +10,7 @@ use Rattle.ntfs_base.specs.declared.fault.PutFault.{PutFault}
 use Rattle.ntfs_base.specs.declared.fault.PutFault.TheVariants as put
 use Rattle.ntfs_base.specs.declared.memory.content.MemContent.{MemContent}
 use Rattle.ntfs_base.proofs.GrowthLemmas.{length-resized}
-use Rattle.ntfs_base.proofs.StreamLemmas.{front_by-take}
+use Rattle.ntfs_base.proofs.SinkLemmas.{front_by-take}
 use Rattle.ntfs_base.specs.declared.calls.Leaves.{Leaves}
 use Rattle.ntfs_base.specs.declared.calls.Leaves.TheVariants as leaves
 

@@ -14,7 +14,7 @@ use Rattle.std.specs.FinMap.{get, insert, get-empty, get-insert, get-remove, sam
 use Rattle.std.specs.Str.{bytes_eq}
 use Rattle.ntfs_base.specs.Shelf.{Files, has_name, without, after_attach, after_create, after_release}
 use Rattle.ntfs_base.specs.Image.{ImageState}
-use Rattle.ntfs_base.specs.MemShelf.{place_of, index_of, bytes_of, placed, files_of, all_placed, IsFresh, KeepsOthers, KeepsPlaces, KeepsFiles, KeepsCalls, CreatesFile, made_by, failing_by, seen_shelf}
+use Rattle.ntfs_base.specs.MemShelf.{place_of, index_of, place_bytes, files_with, files_of, all_placed, IsFresh, KeepsOthers, KeepsPlaces, KeepsFiles, KeepsCalls, CreatesFile, made_by, failing_by, seen_mem_shelf}
 use Rattle.ntfs_base.specs.declared.memory.place.Place.{Place}
 
 pub same_name : (a b : List ℕ) → bytes_eq a b ≡ true → a ≡ b
@@ -135,25 +135,25 @@ place_of-set name q (x ∷ ps) i p e named =
     refl e
 
 -- the file of a name is the first place's
-get-placed : (o : Option (List ℕ)) (name q : List ℕ) (rest : Files)
-    → get (placed o name rest) q ≡ cond (bytes_eq q name) o (get rest q)
-get-placed None name q rest =
+get-files_with : (o : Option (List ℕ)) (name q : List ℕ) (rest : Files)
+    → get (files_with o name rest) q ≡ cond (bytes_eq q name) o (get rest q)
+get-files_with None name q rest =
     get-remove nat_list_cmp_total rest name q ∙ ap (λ b. cond b None (get rest q)) (sym (texts_ties q name))
-get-placed (Some bytes) name q rest =
+get-files_with (Some bytes) name q rest =
     get-insert nat_list_cmp_total rest name bytes q
     ∙ ap (λ b. cond b (Some bytes) (get rest q)) (sym (texts_ties q name))
 
 then_cond : (b : Bool) (p : Place) (o : Option Place)
-    → option_and_then bytes_of (cond b (Some p) o) ≡ cond b (bytes_of p) (option_and_then bytes_of o)
+    → option_and_then place_bytes (cond b (Some p) o) ≡ cond b (place_bytes p) (option_and_then place_bytes o)
 then_cond true p o = refl
 then_cond false p o = refl
 
-pub get-files_of : (ps : List Place) (q : List ℕ) → get (files_of ps) q ≡ option_and_then bytes_of (place_of q ps)
+pub get-files_of : (ps : List Place) (q : List ℕ) → get (files_of ps) q ≡ option_and_then place_bytes (place_of q ps)
 unfolding files_of
 get-files_of [] q = get-empty (slice_cmp nat_cmp) q
 get-files_of (p ∷ ps) q =
-    get-placed (bytes_of p) (string_bytes p.name) q (files_of ps)
-    ∙ ap (cond (bytes_eq q (string_bytes p.name)) (bytes_of p)) (get-files_of ps q)
+    get-files_with (place_bytes p) (string_bytes p.name) q (files_of ps)
+    ∙ ap (cond (bytes_eq q (string_bytes p.name)) (place_bytes p)) (get-files_of ps q)
     ∙ sym (then_cond (bytes_eq q (string_bytes p.name)) p (place_of q ps))
 
 same_files : (a b : Files) → ((q : List ℕ) → get a q ≡ get b q) → a ≡ b
@@ -162,11 +162,11 @@ same_files a b alike = same_map nat_list_cmp_total (slice_cmp-IsAntisymmetric na
 -- what the file of a name is after its place was replaced or made
 after_place : (ps ps' : List Place) (p : Place) (q : List ℕ)
     → place_of q ps' ≡ cond (bytes_eq q (string_bytes p.name)) (Some p) (place_of q ps)
-    → get (files_of ps') q ≡ cond (bytes_eq q (string_bytes p.name)) (bytes_of p) (get (files_of ps) q)
+    → get (files_of ps') q ≡ cond (bytes_eq q (string_bytes p.name)) (place_bytes p) (get (files_of ps) q)
 after_place ps ps' p q is =
-    get-files_of ps' q ∙ ap (option_and_then bytes_of) is
+    get-files_of ps' q ∙ ap (option_and_then place_bytes) is
     ∙ then_cond (bytes_eq q (string_bytes p.name)) p (place_of q ps)
-    ∙ ap (cond (bytes_eq q (string_bytes p.name)) (bytes_of p)) (sym (get-files_of ps q))
+    ∙ ap (cond (bytes_eq q (string_bytes p.name)) (place_bytes p)) (sym (get-files_of ps q))
 
 kept_by : (b : Bool) (o here : Option (List ℕ)) → (b ≡ true → o ≡ here) → cond b o here ≡ here
 kept_by true o here same = same refl
@@ -175,15 +175,15 @@ kept_by false o here same = refl
 -- a place that is replaced by one with the same file keeps all files
 pub files_of-kept : (ps ps' : List Place) (p : Place)
     → ((q : List ℕ) → place_of q ps' ≡ cond (bytes_eq q (string_bytes p.name)) (Some p) (place_of q ps))
-    → bytes_of p ≡ option_and_then bytes_of (place_of (string_bytes p.name) ps) → files_of ps' ≡ files_of ps
+    → place_bytes p ≡ option_and_then place_bytes (place_of (string_bytes p.name) ps) → files_of ps' ≡ files_of ps
 files_of-kept ps ps' p is same =
-    same_files (files_of ps') (files_of ps) (λ q. after_place ps ps' p q (is q) ∙ kept_by (bytes_eq q (string_bytes p.name)) (bytes_of p) (get (files_of ps) q)
-    (λ here. same ∙ ap (λ n. option_and_then bytes_of (place_of n ps)) (sym (same_name q (string_bytes p.name) here)) ∙ sym (get-files_of ps q)))
+    same_files (files_of ps') (files_of ps) (λ q. after_place ps ps' p q (is q) ∙ kept_by (bytes_eq q (string_bytes p.name)) (place_bytes p) (get (files_of ps) q)
+    (λ here. same ∙ ap (λ n. option_and_then place_bytes (place_of n ps)) (sym (same_name q (string_bytes p.name) here)) ∙ sym (get-files_of ps q)))
 
 -- a place that is replaced by one with another file changes that file alone
 pub files_of-insert : (ps ps' : List Place) (p : Place) (bytes : List ℕ)
     → ((q : List ℕ) → place_of q ps' ≡ cond (bytes_eq q (string_bytes p.name)) (Some p) (place_of q ps))
-    → bytes_of p ≡ Some bytes → files_of ps' ≡ insert (files_of ps) (string_bytes p.name) bytes
+    → place_bytes p ≡ Some bytes → files_of ps' ≡ insert (files_of ps) (string_bytes p.name) bytes
 files_of-insert ps ps' p bytes is new =
     same_files (files_of ps') (insert (files_of ps) (string_bytes p.name) bytes) (λ q. after_place ps ps' p q (is q)
     ∙ ap (λ o. cond (bytes_eq q (string_bytes p.name)) o (get (files_of ps) q)) new
@@ -253,9 +253,9 @@ all_placed-has ps name (x ∷ names) all has =
 -- a replaced place with the same file keeps all files
 pub kept_by_set : (name : List ℕ) (ps ps' : List Place) (p : Place) → string_bytes p.name ≡ name
     → ((q : List ℕ) → place_of q ps' ≡ cond (bytes_eq q (string_bytes p.name)) (Some p) (place_of q ps))
-    → bytes_of p ≡ option_and_then bytes_of (place_of name ps) → KeepsFiles name ps ps'
+    → place_bytes p ≡ option_and_then place_bytes (place_of name ps) → KeepsFiles name ps ps'
 kept_by_set name ps ps' p named is same = record {
-  files = files_of-kept ps ps' p is (same ∙ ap (λ n. option_and_then bytes_of (place_of n ps)) (sym named));
+  files = files_of-kept ps ps' p is (same ∙ ap (λ n. option_and_then place_bytes (place_of n ps)) (sym named));
   others = others_kept ps ps' p name named is;
   places = places_kept ps ps' p is;
 }
@@ -264,7 +264,7 @@ pub kept_by_push : (name : List ℕ) (ps : List Place) (p : Place) → index_of 
     → KeepsFiles name ps (ps ++ p ∷ [])
 kept_by_push name ps p none fresh =
     kept_by_set name ps (ps ++ p ∷ []) p fresh.named (λ q. place_of-push name q ps p none fresh.named)
-    (ap (option_map (λ v. v.items)) fresh.empty ∙ sym (ap (option_and_then bytes_of) (place_of-none name ps none)))
+    (ap (option_map (λ v. v.items)) fresh.empty ∙ sym (ap (option_and_then place_bytes) (place_of-none name ps none)))
 
 pub calls_by_push : (name : List ℕ) (ps : List Place) (p : Place) → index_of name ps ≡ None → IsFresh name p
     → KeepsCalls name ps (ps ++ p ∷ [])
@@ -324,9 +324,9 @@ pub place_of-there : (name : List ℕ) (ps : List Place) (i : ℕ) (p : Place) �
 place_of-there name ps i p found is = (stands_at name ps i found).place p ∙ ap Some (sym is)
 
 pub file_there : (name : List ℕ) (ps : List Place) (i : ℕ) (p : Place) → index_of name ps ≡ Some i → p ≡ get_or ps i p
-    → get (files_of ps) name ≡ bytes_of p
+    → get (files_of ps) name ≡ place_bytes p
 file_there name ps i p found is =
-    get-files_of ps name ∙ ap (option_and_then bytes_of) (place_of-there name ps i p found is)
+    get-files_of ps name ∙ ap (option_and_then place_bytes) (place_of-there name ps i p found is)
 
 -- a clause on an `Ok` that follows from another
 pub IfOk-then : {T E : Type 0} (P Q : T → Type 0) (r : Result T E) → ((x : T) → P x → Q x) → IfOk r P → IfOk r Q
@@ -346,7 +346,7 @@ OnErr-then P Q (Err e) step is = step is
 pub created_by_set : {T E : Type 0} (name : List ℕ) (ps ps' : List Place) (p : Place) (r : Result T E)
     → string_bytes p.name ≡ name
     → ((q : List ℕ) → place_of q ps' ≡ cond (bytes_eq q (string_bytes p.name)) (Some p) (place_of q ps))
-    → OnOk r (bytes_of p ≡ Some []) → OnErr r (bytes_of p ≡ option_and_then bytes_of (place_of name ps)) → CreatesFile
+    → OnOk r (place_bytes p ≡ Some []) → OnErr r (place_bytes p ≡ option_and_then place_bytes (place_of name ps)) → CreatesFile
     name ps r ps'
 created_by_set name ps ps' p r named is created refused = record {
   created =
@@ -354,7 +354,7 @@ created_by_set name ps ps' p r named is created refused = record {
       created;
   refused =
       OnErr-then _ _ r
-      (λ same. files_of-kept ps ps' p is (same ∙ ap (λ n. option_and_then bytes_of (place_of n ps)) (sym named)))
+      (λ same. files_of-kept ps ps' p is (same ∙ ap (λ n. option_and_then place_bytes (place_of n ps)) (sym named)))
       refused;
   others = others_kept ps ps' p name named is;
   places = places_kept ps ps' p is;
@@ -424,7 +424,7 @@ all_placed-cons ps name names first rest = rw (first, rest) refl
 -- the shelf after a file was handed out
 pub seen-attached : (name : List ℕ) (ps ps' : List Place) (names names' : List (String Global)) (text : String Global)
     → files_of ps' ≡ files_of ps → names' ≡ text ∷ names → string_bytes text ≡ name
-    → seen_shelf ps' names' ≡ after_attach name (seen_shelf ps names)
+    → seen_mem_shelf ps' names' ≡ after_attach name (seen_mem_shelf ps names)
 unfolding after_attach
 seen-attached name ps ps' names names' text files is named =
     let attached : map string_bytes names' ≡ name ∷ map string_bytes names = ap (map string_bytes) is
@@ -434,7 +434,7 @@ seen-attached name ps ps' names names' text files is named =
 -- after an empty one was made
 pub seen-created : (name : List ℕ) (ps ps' : List Place) (names names' : List (String Global)) (text : String Global)
     → files_of ps' ≡ insert (files_of ps) name [] → names' ≡ text ∷ names → string_bytes text ≡ name
-    → seen_shelf ps' names' ≡ after_create name (seen_shelf ps names)
+    → seen_mem_shelf ps' names' ≡ after_create name (seen_mem_shelf ps names)
 unfolding after_create
 seen-created name ps ps' names names' text files is named =
     let attached : map string_bytes names' ≡ name ∷ map string_bytes names = ap (map string_bytes) is
@@ -445,13 +445,13 @@ seen-created name ps ps' names names' text files is named =
 pub seen-released : (file : ImageState) (ps ps' : List Place) (names names' : List (String Global))
     → files_of ps' ≡ insert (files_of ps) file.name file.content
     → map string_bytes names' ≡ without file.name (map string_bytes names)
-    → seen_shelf ps' names' ≡ after_release file (seen_shelf ps names)
+    → seen_mem_shelf ps' names' ≡ after_release file (seen_mem_shelf ps names)
 unfolding after_release
 seen-released file ps ps' names names' files attached =
     λ i. record { is_told = true; files = files i; attached = attached i }
 
 pub file_absent : (name : List ℕ) (ps : List Place) → index_of name ps ≡ None → get (files_of ps) name ≡ None
-file_absent name ps none = get-files_of ps name ∙ ap (option_and_then bytes_of) (place_of-none name ps none)
+file_absent name ps none = get-files_of ps name ∙ ap (option_and_then place_bytes) (place_of-none name ps none)
 
 -- a place that was found is there
 pub is_some-place_of : (name : List ℕ) (ps : List Place) (i : ℕ) → index_of name ps ≡ Some i

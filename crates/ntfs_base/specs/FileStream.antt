@@ -2,7 +2,8 @@
 use Rattle.std.specs.Prelude.{ℕ, Result, Ok, Err, if◌then◌else◌}
 use Rattle.ntfs_base.specs.Calls.{one_more}
 use Rattle.ntfs_base.specs.Image.{ImageState}
-use Rattle.ntfs_base.specs.Stream.{SourceState, SinkState}
+use Rattle.ntfs_base.specs.Source.{SourceState}
+use Rattle.ntfs_base.specs.Sink.{SinkState}
 use Rattle.ntfs_base.specs.declared.fault.Faults.{Faults}
 use Rattle.ntfs_base.specs.declared.fault.PutFault.{PutFault}
 use Rattle.ntfs_base.specs.declared.fault.PutFault.TheVariants as put

@@ -5,12 +5,12 @@ use Rattle.std.specs.Prelude.{◌≡◌, ◌≤◌, ℕ, Bool, true, false, List
 use Rattle.ntfs_base.specs.Causes.{HaveNotFallen, Rose}
 use Rattle.ntfs_base.specs.Image.{ImageState}
 use Rattle.ntfs_base.specs.Shelf.{Files}
-use Rattle.ntfs_base.specs.Stream.{SinkState, after_put}
+use Rattle.ntfs_base.specs.Sink.{SinkState, after_put}
 use Rattle.ntfs_base.specs.declared.fault.SinkFaults.{SinkFaults}
 use Rattle.ntfs_base.specs.declared.image.Image as image
 use Rattle.ntfs_base.specs.declared.shelf.Shelf as shelf
-use Rattle.ntfs_base.specs.declared.stream.Sink as sink
-use Rattle.ntfs_base.specs.declared.stream.Source as source
+use Rattle.ntfs_base.specs.declared.sink.Sink as sink
+use Rattle.ntfs_base.specs.declared.source.Source as source
 
 -- ---- where a refusal comes from
 

@@ -26,18 +26,18 @@ index_of name (p ∷ ps) =
     if bytes_eq name (string_bytes p.name) then Some 0 else option_map (λ i. i + 1) (index_of name ps)
 
 -- the bytes of a place, where it has a file
-abbrev pub bytes_of : Place → Option (List ℕ)
-bytes_of p = option_map (λ v. v.items) p.content
+abbrev pub place_bytes : Place → Option (List ℕ)
+place_bytes p = option_map (λ v. v.items) p.content
 
 -- the files with one place more, in front
-abbrev pub placed : Option (List ℕ) → List ℕ → Files → Files
-placed None name rest = files.remove rest name
-placed (Some bytes) name rest = files.insert rest name bytes
+abbrev pub files_with : Option (List ℕ) → List ℕ → Files → Files
+files_with None name rest = files.remove rest name
+files_with (Some bytes) name rest = files.insert rest name bytes
 
 -- the files that the places have
 unfoldable pub files_of : List Place → Files
 files_of [] = files.empty
-files_of (p ∷ ps) = placed (bytes_of p) (string_bytes p.name) (files_of ps)
+files_of (p ∷ ps) = files_with (place_bytes p) (string_bytes p.name) (files_of ps)
 
 -- each of these names has a place
 abbrev pub all_placed : List Place → List (List ℕ) → Bool
@@ -99,8 +99,8 @@ pub record IsFresh (name : List ℕ) (p : Place) : Type 0 where
   pub failing : p.calls.failing.items ≡ []
 
 -- a shelf in memory as contracts see it: its files are told
-abbrev pub seen_shelf : List Place → List (String Global) → ShelfState
-seen_shelf places attached = record { is_told = true; files = files_of places; attached = map string_bytes attached }
+abbrev pub seen_mem_shelf : List Place → List (String Global) → ShelfState
+seen_mem_shelf places attached = record { is_told = true; files = files_of places; attached = map string_bytes attached }
 
 -- the places of all other names stay as they were
 abbrev pub KeepsOthers : List ℕ → List Place → List Place → Type 0

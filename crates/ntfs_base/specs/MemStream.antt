@@ -3,7 +3,8 @@ use Rattle.std.specs.Prelude.{◌≡◌, ◌++◌, ℕ, List, true, is_some, Non
 use Rattle.ntfs_base.specs.Calls.{front_by, next_failing, one_more}
 use Rattle.ntfs_base.specs.declared.fault.PutFault.{PutFault}
 use Rattle.ntfs_base.specs.declared.fault.PutFault.TheVariants as put
-use Rattle.ntfs_base.specs.Stream.{SourceState, SinkState}
+use Rattle.ntfs_base.specs.Source.{SourceState}
+use Rattle.ntfs_base.specs.Sink.{SinkState}
 use Rattle.ntfs_base.specs.declared.memory.source.MemSource.{MemSource}
 use Rattle.ntfs_base.specs.declared.memory.sink.MemSink.{MemSink}
 

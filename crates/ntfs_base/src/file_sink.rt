@@ -1,7 +1,7 @@
 use crate::calls::one_more;
 use crate::fault::{Failed, PutFault};
 use crate::image::HostFile;
-use crate::stream::Sink;
+use crate::sink::Sink;
 
 /// A file as a sink: bytes are appended to it. It counts how often memory was wanting; how often the file's writes have
 /// failed is counted by the file.
@@ -46,7 +46,7 @@ impl<F: HostFile> Sink for FileSink<F> {
     ghost use Rattle.ntfs_base.specs.Causes.{FlushCause, GrowthCause, SinkCause, WriteCause};
     ghost use Rattle.ntfs_base.specs.FileStream.{sink_of, sink_counts, wants_after};
     ghost use Rattle.ntfs_base.specs.Growth.{Appended};
-    ghost use Rattle.ntfs_base.specs.Stream.{Put, PutsNothing};
+    ghost use Rattle.ntfs_base.specs.Sink.{Put, PutsNothing};
 
     ghost seen = { λ sink. sink_of (F.seen sink.file) };
 

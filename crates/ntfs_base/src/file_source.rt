@@ -2,7 +2,7 @@ ghost use Rattle.std.specs.Prelude.{◌≤◌};
 
 use crate::fault::Failed;
 use crate::image::HostFile;
-use crate::stream::Source;
+use crate::source::Source;
 
 /// A file as a source: it is read from its start, up to the length that it tells.
 #[derive(Drop)]
@@ -37,7 +37,7 @@ impl<F: HostFile> Source for FileSource<F> {
     ghost use Rattle.std.specs.Prelude.{◌≡◌, ◌+◌, ◌-◌, ◌≤◌, length, min, IfOk, OnErr, IsTrue};
     ghost use Rattle.ntfs_base.specs.Causes.{SourceCause, ReadCause};
     ghost use Rattle.ntfs_base.specs.FileStream.{source_of};
-    ghost use Rattle.ntfs_base.specs.Stream.{Gives, after_take};
+    ghost use Rattle.ntfs_base.specs.Source.{GivesNext, after_take};
 
     ghost seen = { λ source. source_of (F.seen source.file) source.given };
 
@@ -46,7 +46,7 @@ impl<F: HostFile> Source for FileSource<F> {
     /// It gives as many bytes as there is room for, up to the file's length, which is known of an untold file too.
     fn take(&mut self, into: &mut [u8]) -> Result<usize, Failed>
         ensures room { IfOk result (λ n. n ≤ length into.old) }
-        ensures gives { IfOk result (λ n. IsTrue (F.seen self.old.file).is_told → Gives (source_of (F.seen self.old.file) self.old.given) n into.new) }
+        ensures gives { IfOk result (λ n. IsTrue (F.seen self.old.file).is_told → GivesNext (source_of (F.seen self.old.file) self.old.given) n into.new) }
         ensures given { IfOk result (λ n. source_of (F.seen self.new.file) self.new.given ≡ after_take n (source_of (F.seen self.old.file) self.old.given)) }
         ensures failed { OnErr result (source_of (F.seen self.new.file) self.new.given ≡ source_of (F.seen self.old.file) self.old.given) }
         ensures cause { SourceCause (F.faults self.old.file).reads (F.faults self.new.file).reads result }

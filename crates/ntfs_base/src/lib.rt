@@ -9,11 +9,12 @@ mod file_source;
 mod image;
 pub mod in_place;
 mod line;
-mod meaning;
 mod memory;
 mod names;
+mod refusal;
 mod shelf;
-mod stream;
+mod sink;
+mod source;
 
 pub use calls::{Calls, FailingCall, Leaves, one_more};
 pub use fault::{Failed, Faults, PutFault, ShelfFault, SinkFaults};
@@ -21,11 +22,12 @@ pub use file_sink::FileSink;
 pub use file_source::FileSource;
 pub use image::{HostFile, Image};
 pub use line::Line;
-pub use meaning::{Lack, Missing, Named, Rule, UsageKind};
 pub use memory::{MemContent, MemFile, MemImage, MemShelf, MemSink, MemSource, Place};
 pub use names::{is_named, remove_name};
+pub use refusal::{Lack, Missing, Named, Rule, UsageKind};
 pub use shelf::Shelf;
-pub use stream::{Sink, Source};
+pub use sink::Sink;
+pub use source::Source;
 
 #[cfg(test)]
 mod tests;

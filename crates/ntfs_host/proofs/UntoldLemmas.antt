@@ -5,7 +5,7 @@ use Rattle.std.specs.FinMap.{empty}
 use Rattle.ntfs_base.specs.Growth.{SetLength, Appended, after_set_len, after_append}
 use Rattle.ntfs_base.specs.Image.{ImageState}
 use Rattle.ntfs_base.specs.Shelf.{ShelfState, after_attach, after_create, after_release, without}
-use Rattle.ntfs_base.specs.Stream.{Put, after_put}
+use Rattle.ntfs_base.specs.Sink.{Put, after_put}
 use Rattle.ntfs_base.specs.Writes.{Write, Wrote, after_writes}
 use Rattle.ntfs_host.specs.Seen.{seen_output}
 

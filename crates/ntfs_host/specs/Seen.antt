@@ -4,7 +4,8 @@ use Rattle.std.specs.String.{string_bytes}
 use Rattle.std.specs.FinMap.{empty}
 use Rattle.ntfs_base.specs.Image.{ImageState}
 use Rattle.ntfs_base.specs.Shelf.{ShelfState}
-use Rattle.ntfs_base.specs.Stream.{SourceState, SinkState}
+use Rattle.ntfs_base.specs.Source.{SourceState}
+use Rattle.ntfs_base.specs.Sink.{SinkState}
 use Rattle.ntfs_host.specs.declared.disk_file.DiskFile.{DiskFile}
 use Rattle.ntfs_host.specs.declared.disk_shelf.DiskShelf.{DiskShelf}
 

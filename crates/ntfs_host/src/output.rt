@@ -43,7 +43,7 @@ impl<W: Write + Drop> Sink for StdOutput<W> {
     ghost use Rattle.std.specs.Prelude.{◌≡◌, true, false, IfErr, OnOk, OnErr};
     ghost use Rattle.std.specs.Io.KnownBytes.{Appends, Keeps};
     ghost use Rattle.ntfs_base.specs.Calls.{count_after};
-    ghost use Rattle.ntfs_base.specs.Stream.{Put};
+    ghost use Rattle.ntfs_base.specs.Sink.{Put};
     ghost use Rattle.ntfs_host.specs.Seen.{seen_output};
 
     ghost seen = { λ _. seen_output };

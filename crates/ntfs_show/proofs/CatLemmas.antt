@@ -1,9 +1,9 @@
 -- The outcome, step by step, and answers that give it.
 use Rattle.std.proofs.Common.{◌≡◌, ℕ, List, refl, sym, ap, ◌∙◌, arith, Bool, true, false, Option, Some, None, Result, Ok, Err, if◌then◌else◌}
-use Rattle.ntfs_base.specs.Stream.{SinkState, after_put}
-use Rattle.ntfs_base.specs.declared.meaning.Missing.TheVariants as missing
-use Rattle.ntfs_base.specs.declared.meaning.Rule.TheVariants as rule
-use Rattle.ntfs_base.proofs.StreamLemmas.{after_put-nil}
+use Rattle.ntfs_base.specs.Sink.{SinkState, after_put}
+use Rattle.ntfs_base.specs.declared.refusal.Missing.TheVariants as missing
+use Rattle.ntfs_base.specs.declared.refusal.Rule.TheVariants as rule
+use Rattle.ntfs_base.proofs.SinkLemmas.{after_put-nil}
 use Rattle.ntfs_boot.specs.Geometry.{volume_geometry}
 use Rattle.ntfs_boot.specs.declared.geometry.Geometry.{Geometry}
 use Rattle.ntfs_boot.specs.declared.volume.ImageFault.{ImageFault}

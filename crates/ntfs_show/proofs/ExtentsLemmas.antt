@@ -11,8 +11,8 @@ use Rattle.ntfs_record.specs.Views.{Shown, ShownBody, shown_part}
 use Rattle.ntfs_runs.specs.declared.run.Run.{Run}
 use Rattle.ntfs_runs.specs.Clusters.{vcns}
 use Rattle.ntfs_show.specs.Cells.{Cells, are_cells, cells_below}
-use Rattle.ntfs_base.specs.declared.meaning.Missing.TheVariants as missing
-use Rattle.ntfs_base.specs.declared.meaning.Rule.TheVariants as rule
+use Rattle.ntfs_base.specs.declared.refusal.Missing.TheVariants as missing
+use Rattle.ntfs_base.specs.declared.refusal.Rule.TheVariants as rule
 use Rattle.ntfs_show.specs.Cat.{IsSettledFault}
 use Rattle.ntfs_show.specs.declared.cat_fault.CatFault.TheVariants as cat
 use Rattle.ntfs_show.specs.declared.sought.Sought.TheVariants as sought

@@ -4,7 +4,7 @@ use Rattle.std.specs.Prelude.{find, is_some, is_err, MatchResult}
 use Rattle.ntfs_fixup.specs.declared.unfixing.FixFault.{FixFault}
 use Rattle.ntfs_record.specs.declared.fault.RecordFault.{RecordFault}
 use Rattle.std.specs.Option.{option_map}
-use Rattle.ntfs_base.specs.declared.meaning.Rule.TheVariants as rule
+use Rattle.ntfs_base.specs.declared.refusal.Rule.TheVariants as rule
 use Rattle.ntfs_boot.specs.declared.geometry.Geometry.{Geometry}
 use Rattle.ntfs_fixup.specs.Fixups.{unfixed}
 use Rattle.ntfs_fixup.specs.declared.header.Magic.TheVariants.{File}

@@ -1,8 +1,8 @@
 -- Bytes that are put piece by piece.
 use Rattle.std.proofs.Common.{◌≡◌, ◌≤◌, ◌+◌, ℕ, List, [], ◌∷◌, ◌++◌, length, take, refl, sym, ap, ◌∙◌, subst, arith, length-append, append_assoc, Ok, Err}
 use Rattle.std.proofs.lemmas.List.{append-nil, take_at}
-use Rattle.ntfs_base.specs.Stream.{SinkState, Put, after_put}
-use Rattle.ntfs_base.proofs.StreamLemmas.{after_put-append, after_put-nil, put_cut, put_then}
+use Rattle.ntfs_base.specs.Sink.{SinkState, Put, after_put}
+use Rattle.ntfs_base.proofs.SinkLemmas.{after_put-append, after_put-nil, put_cut, put_then}
 use Rattle.std.proofs.Common.{◌<◌, ◌-◌, ◌*◌, ◌&&◌, zero, suc, min, Bool, true, Option, Some, None, nat_lt}
 use Rattle.std.specs.Prelude.{IfSome}
 use Rattle.std.specs.Option.{option_map}

@@ -9,7 +9,7 @@ use Rattle.std.proofs.Math.Seq.{take-append-add}
 use Rattle.std.proofs.lemmas.Bool.{cases_lt, leb-true, ltb-true}
 use Rattle.ntfs_show.specs.Cells.{are_cells, is_cell, map_cells}
 use Rattle.std.proofs.Common.{Bor, Err}
-use Rattle.ntfs_base.specs.Stream.{SinkState, Put, after_put}
+use Rattle.ntfs_base.specs.Sink.{SinkState, Put, after_put}
 use Rattle.ntfs_boot.specs.declared.geometry.Geometry.{Geometry}
 use Rattle.ntfs_runs.specs.declared.run.Run.{Run}
 use Rattle.ntfs_runs.specs.Clusters.{vcns}

@@ -6,7 +6,7 @@ use Rattle.std.proofs.lemmas.List.{drop-drop, drop_at, take_at, length-take-le, 
 use Rattle.std.proofs.Math.Seq.{take-add}
 use Rattle.std.proofs.lemmas.List.{length-take}
 use Rattle.std.specs.Prelude.{Result, Ok, Err, IfErr}
-use Rattle.ntfs_base.specs.declared.meaning.Missing.TheVariants as missing
+use Rattle.ntfs_base.specs.declared.refusal.Missing.TheVariants as missing
 use Rattle.ntfs_show.specs.Reading.{block_of, live_block}
 use Rattle.ntfs_show.specs.declared.cat_fault.CatFault.TheVariants as cat
 use borrow.Rule.Slice.PartMut.{put_mid}

@@ -2,12 +2,12 @@
 use Rattle.std.specs.Prelude.{◌≡◌, ◌≤◌, ℕ, List, [], length, take, Option, Some, None, Result, Ok, Err, IfErr, if◌then◌else◌}
 use Rattle.ntfs_base.specs.Bytes.{cluster_at}
 use Rattle.ntfs_base.specs.Causes.{Rose}
-use Rattle.ntfs_base.specs.Stream.{SinkState, after_put}
+use Rattle.ntfs_base.specs.Sink.{SinkState, after_put}
 use Rattle.ntfs_base.specs.declared.fault.Faults.{Faults}
 use Rattle.ntfs_base.specs.declared.fault.SinkFaults.{SinkFaults}
 use Rattle.ntfs_base.specs.declared.fault.PutFault.{PutFault}
 use Rattle.ntfs_base.specs.declared.fault.PutFault.TheVariants as put
-use Rattle.ntfs_base.specs.declared.meaning.Rule.TheVariants as rule
+use Rattle.ntfs_base.specs.declared.refusal.Rule.TheVariants as rule
 use Rattle.ntfs_boot.specs.Geometry.{volume_geometry}
 use Rattle.ntfs_boot.specs.declared.geometry.Geometry.{Geometry}
 use Rattle.ntfs_boot.specs.declared.volume.ImageFault.{ImageFault}

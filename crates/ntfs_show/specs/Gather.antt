@@ -2,8 +2,8 @@
 -- "$DATA", "$ATTRIBUTE_LIST" and "Attribute Header"; the refusals and their order are ours). A record with an attribute list
 -- is refused for now.
 use Rattle.std.specs.Prelude.{◌-◌, ◌*◌, ◌==◌, ◌&&◌, ◌||◌, not, ℕ, Bool, true, false, List, [], ◌∷◌, ◌++◌, length, Option, Result, Ok, Err, nat_le, if◌then◌else◌}
-use Rattle.ntfs_base.specs.declared.meaning.Missing.TheVariants as missing
-use Rattle.ntfs_base.specs.declared.meaning.Rule.TheVariants as rule
+use Rattle.ntfs_base.specs.declared.refusal.Missing.TheVariants as missing
+use Rattle.ntfs_base.specs.declared.refusal.Rule.TheVariants as rule
 use Rattle.ntfs_record.specs.Entry.{Part}
 use Rattle.ntfs_show.specs.Cells.{Cells, map_cells}
 use Rattle.ntfs_show.specs.Records.{Slot}

@@ -1,7 +1,7 @@
 -- What is left to put. The word is ours.
 use Rattle.std.specs.Prelude.{◌≡◌, ◌-◌, ◌*◌, ℕ, List, ◌++◌}
 use Rattle.ntfs_show.specs.declared.stream.Left.{Left}
-use Rattle.ntfs_base.specs.Stream.{SinkState, after_put}
+use Rattle.ntfs_base.specs.Sink.{SinkState, after_put}
 
 -- of all bytes the rest is left, and those before it were put
 pub record IsLeft (all rest : List ℕ) (old now : SinkState) : Type 0 where

@@ -1,7 +1,7 @@
 -- What the steps of the call read, as its private functions say it. The words are ours.
 use Rattle.std.specs.Prelude.{◌≡◌, ◌⊎◌, ◌≤◌, ◌&&◌, ◌==◌, not, ℕ, Bool, true, false, List, [], ◌∷◌, ◌++◌, length, map, Option, Some, None, Result, Ok, Err, if◌then◌else◌}
-use Rattle.ntfs_base.specs.declared.meaning.Missing.TheVariants as missing
-use Rattle.ntfs_base.specs.declared.meaning.Rule.TheVariants as rule
+use Rattle.ntfs_base.specs.declared.refusal.Missing.TheVariants as missing
+use Rattle.ntfs_base.specs.declared.refusal.Rule.TheVariants as rule
 use Rattle.ntfs_boot.specs.declared.geometry.Geometry.{Geometry}
 use Rattle.ntfs_boot.specs.Geometry.{IsGood, volume_bytes}
 use Rattle.ntfs_fixup.specs.Fixups.{unfixed}

@@ -1,5 +1,5 @@
 ghost use Rattle.std.specs.Prelude.{◌≡◌, ◌≤◌, ◌+◌, ◌++◌, length, IsErrOf};
-ghost use Rattle.ntfs_base.specs.Stream.{Put};
+ghost use Rattle.ntfs_base.specs.Sink.{Put};
 ghost use Rattle.ntfs_show.specs.Fault.{PutsOnly};
 ghost use Rattle.ntfs_show.specs.Info.{info_lines, label_text, number_line, serial_line};
 

@@ -4,7 +4,7 @@ ghost use Rattle.std.specs.Prelude.{◌≡◌, ◌≤◌, ◌<◌, ◌+◌, ◌*
 ghost use Rattle.std.specs.Option.{option_map};
 ghost use Rattle.ntfs_base.specs.Bytes.{cluster_at};
 ghost use Rattle.ntfs_base.specs.Causes.{ReadCause};
-ghost use Rattle.ntfs_base.specs.Stream.{Put};
+ghost use Rattle.ntfs_base.specs.Sink.{Put};
 ghost use Rattle.ntfs_runs.specs.Clusters.{behind, row, vcns};
 ghost use Rattle.ntfs_show.specs.Cat.{HasCatCause, IsCutOff, filled};
 ghost use Rattle.ntfs_show.specs.Cells.{are_cells, map_cells};

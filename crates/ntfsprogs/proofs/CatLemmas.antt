@@ -1,7 +1,7 @@
 -- What stands where ntfscat has done its work.
 use Rattle.std.proofs.Common.{◌≡◌, ℕ, Bool, true, false, List, refl, sym, ap, subst, Result, Ok, Err, Option, Some, None}
 use Rattle.ntfs_base.specs.Shelf.{Files, file_of}
-use Rattle.ntfs_base.specs.Stream.{SinkState}
+use Rattle.ntfs_base.specs.Sink.{SinkState}
 use Rattle.ntfs_boot.specs.Geometry.{volume_geometry}
 use Rattle.ntfs_boot.specs.declared.geometry.Geometry.{Geometry}
 use Rattle.ntfs_boot.specs.declared.volume.ImageFault.{ImageFault}

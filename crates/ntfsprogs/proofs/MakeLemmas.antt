@@ -16,8 +16,8 @@ use Rattle.ntfs_base.specs.Writes.{byte_from}
 use Rattle.ntfs_make.specs.Made.{made, made_writes}
 use Rattle.ntfs_make.specs.Shape.{IsShape, is_cluster_size, shape_of}
 use Rattle.ntfsprogs.specs.Make.{IsMakeStatus, IsPart, is_in_range, make_file_outcome, make_line_outcome, new_files, new_outcome, told_volume, volume_bytes, volume_of, volume_outcome, with_cluster}
-use Rattle.ntfs_base.specs.Stream.{SinkState}
-use Rattle.ntfs_base.specs.declared.meaning.UsageKind.TheVariants as usage
+use Rattle.ntfs_base.specs.Sink.{SinkState}
+use Rattle.ntfs_base.specs.declared.refusal.UsageKind.TheVariants as usage
 use Rattle.ntfsprogs.specs.Numbers.{number_of}
 use Rattle.ntfsprogs.specs.Words.{make_file, word_at}
 use Rattle.ntfsprogs.proofs.OutcomeLemmas.{answers_refused}

@@ -7,9 +7,9 @@ use Rattle.ntfs_base.specs.declared.fault.PutFault.{PutFault}
 use Rattle.ntfs_base.specs.declared.fault.PutFault.TheVariants as put
 use Rattle.ntfs_base.specs.declared.fault.SinkFaults.{SinkFaults}
 use Rattle.ntfsprogs.specs.Reply.{PutsMessage}
-use Rattle.ntfs_base.specs.Stream.{SinkState, Put, after_put}
-use Rattle.ntfs_base.proofs.StreamLemmas.{after_put-nil}
-use Rattle.ntfs_base.specs.declared.meaning.Named.TheVariants as named
+use Rattle.ntfs_base.specs.Sink.{SinkState, Put, after_put}
+use Rattle.ntfs_base.proofs.SinkLemmas.{after_put-nil}
+use Rattle.ntfs_base.specs.declared.refusal.Named.TheVariants as named
 use Rattle.ntfs_base.specs.declared.fault.ShelfFault.{ShelfFault}
 use Rattle.ntfs_base.specs.declared.fault.ShelfFault.TheVariants as shelf_fault
 use Rattle.ntfs_base.specs.declared.fault.Faults.{Faults}

@@ -1,9 +1,9 @@
 -- `ntfscat -i NUM`: the unnamed data stream of a record.
 use Rattle.std.specs.Prelude.{◌≡◌, ℕ, true, List, Option, Some, None, Result, Ok, Err}
 use Rattle.ntfs_base.specs.Shelf.{Files, file_of}
-use Rattle.ntfs_base.specs.Stream.{SinkState, after_put}
-use Rattle.ntfs_base.specs.declared.meaning.Named.TheVariants as named
-use Rattle.ntfs_base.specs.declared.meaning.UsageKind.TheVariants as usage
+use Rattle.ntfs_base.specs.Sink.{SinkState, after_put}
+use Rattle.ntfs_base.specs.declared.refusal.Named.TheVariants as named
+use Rattle.ntfs_base.specs.declared.refusal.UsageKind.TheVariants as usage
 use Rattle.ntfs_boot.specs.Geometry.{volume_geometry}
 use Rattle.ntfs_boot.specs.declared.geometry.Geometry.{Geometry}
 use Rattle.ntfs_show.specs.Cat.{cat_outcome, filled, stream_at}

@@ -2,9 +2,9 @@
 use Rattle.std.specs.Prelude.{◌≡◌, ◌⊎◌, ◌&&◌, ◌==◌, ℕ, Bool, List, [], Option, Some, None, nat_le, if◌then◌else◌}
 use Rattle.std.specs.FinMap.{insert}
 use Rattle.ntfs_base.specs.Shelf.{Files, file_of}
-use Rattle.ntfs_base.specs.declared.meaning.Named.TheVariants as named
-use Rattle.ntfs_base.specs.declared.meaning.Named.{Named}
-use Rattle.ntfs_base.specs.declared.meaning.UsageKind.TheVariants as usage
+use Rattle.ntfs_base.specs.declared.refusal.Named.TheVariants as named
+use Rattle.ntfs_base.specs.declared.refusal.Named.{Named}
+use Rattle.ntfs_base.specs.declared.refusal.UsageKind.TheVariants as usage
 use Rattle.ntfs_base.specs.declared.fault.ShelfFault.{ShelfFault}
 use Rattle.ntfs_base.specs.declared.fault.ShelfFault.TheVariants as shelf
 use Rattle.ntfs_make.specs.Left.{IsZeroOrMade}

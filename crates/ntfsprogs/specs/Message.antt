@@ -4,15 +4,15 @@ use Rattle.std.specs.Prelude.{◌==◌, ◌&&◌, nat_lt, ℕ, List, [], ◌∷�
 use Rattle.std.specs.Fmt.{decimal}
 use Rattle.std.specs.Int.{w16, w32, to_be_bytes}
 use Rattle.hex.specs.Hex.{encode_lower}
-use Rattle.ntfs_base.specs.declared.meaning.Lack.{Lack}
-use Rattle.ntfs_base.specs.declared.meaning.Lack.TheVariants as lack
-use Rattle.ntfs_base.specs.declared.meaning.Missing.{Missing}
-use Rattle.ntfs_base.specs.declared.meaning.Missing.TheVariants as missing
-use Rattle.ntfs_base.specs.declared.meaning.Named.{Named}
-use Rattle.ntfs_base.specs.declared.meaning.Rule.{Rule}
-use Rattle.ntfs_base.specs.declared.meaning.Rule.TheVariants.{C1, C2, C3, C4, C5, C6, C7, C8, C9, C10, C11, C12, C13, C14, C15, C16}
-use Rattle.ntfs_base.specs.declared.meaning.UsageKind.{UsageKind}
-use Rattle.ntfs_base.specs.declared.meaning.UsageKind.TheVariants as usage
+use Rattle.ntfs_base.specs.declared.refusal.Lack.{Lack}
+use Rattle.ntfs_base.specs.declared.refusal.Lack.TheVariants as lack
+use Rattle.ntfs_base.specs.declared.refusal.Missing.{Missing}
+use Rattle.ntfs_base.specs.declared.refusal.Missing.TheVariants as missing
+use Rattle.ntfs_base.specs.declared.refusal.Named.{Named}
+use Rattle.ntfs_base.specs.declared.refusal.Rule.{Rule}
+use Rattle.ntfs_base.specs.declared.refusal.Rule.TheVariants.{C1, C2, C3, C4, C5, C6, C7, C8, C9, C10, C11, C12, C13, C14, C15, C16}
+use Rattle.ntfs_base.specs.declared.refusal.UsageKind.{UsageKind}
+use Rattle.ntfs_base.specs.declared.refusal.UsageKind.TheVariants as usage
 use Rattle.ntfsprogs.specs.Words.{tool_name, tool_of, word_at}
 use Rattle.ntfsprogs.specs.declared.status.Status.{Status}
 use Rattle.ntfsprogs.specs.declared.status.Status.TheVariants as status

@@ -1,9 +1,9 @@
 -- What a tool answers: a status, and what it puts on the output. And how an answer of the program is tied to it. The words
 -- are ours.
 use Rattle.std.specs.Prelude.{◌≡◌, ◌≤◌, ℕ, List, length, take}
-use Rattle.ntfs_base.specs.Stream.{SinkState, after_put}
+use Rattle.ntfs_base.specs.Sink.{SinkState, after_put}
 use Rattle.ntfs_base.specs.declared.fault.SinkFaults.{SinkFaults}
-use Rattle.ntfs_base.specs.declared.meaning.Named.{Named}
+use Rattle.ntfs_base.specs.declared.refusal.Named.{Named}
 use Rattle.ntfs_base.specs.declared.fault.ShelfFault.{ShelfFault}
 use Rattle.ntfs_base.specs.declared.fault.ShelfFault.TheVariants as shelf
 use Rattle.ntfs_boot.specs.declared.volume.ImageFault.{ImageFault}

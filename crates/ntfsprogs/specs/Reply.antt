@@ -3,9 +3,10 @@
 use Rattle.std.specs.Prelude.{◌≡◌, ◌⊎◌, ℕ, List, Option, Some, None}
 use Rattle.ntfs_base.specs.Causes.{Rose}
 use Rattle.ntfs_base.specs.Shelf.{Files}
-use Rattle.ntfs_base.specs.Stream.{SinkState, SourceState, after_put}
+use Rattle.ntfs_base.specs.Source.{SourceState}
+use Rattle.ntfs_base.specs.Sink.{SinkState, after_put}
 use Rattle.ntfs_base.specs.declared.fault.SinkFaults.{SinkFaults}
-use Rattle.ntfs_base.specs.declared.meaning.UsageKind.TheVariants as usage
+use Rattle.ntfs_base.specs.declared.refusal.UsageKind.TheVariants as usage
 use Rattle.ntfsprogs.specs.Cat.{cat_line_outcome}
 use Rattle.ntfsprogs.specs.Info.{info_outcome, refused}
 use Rattle.ntfsprogs.specs.Make.{make_line_files, make_line_outcome}

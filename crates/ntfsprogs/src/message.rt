@@ -2,7 +2,7 @@
 ghost use Rattle.std.specs.Prelude.{◌≡◌, ◌≤◌, ◌+◌, ◌++◌, ◌∷◌, [], length, codes, map, string_bytes};
 ghost use Rattle.hex.specs.Hex.{encode_lower};
 ghost use Rattle.std.specs.Int.{w16, w32, to_be_bytes};
-ghost use Rattle.ntfs_base.specs.Stream.{Put};
+ghost use Rattle.ntfs_base.specs.Sink.{Put};
 ghost use Rattle.ntfs_base.specs.Causes.{SinkCause};
 ghost use Rattle.ntfsprogs.specs.Message.{counted, flags_text, lack_text, line_for, message_of, missing_text, name_of, named_in, rule_number, rule_text, status_text, tool_word, type_text, usage_text, without_zeros};
 ghost use Rattle.ntfsprogs.specs.Words.{tool_of, word_at};

@@ -1,7 +1,7 @@
 //! The top call: from the words of a command line to a status, over whatever stands outside.
 ghost use Rattle.std.specs.Prelude.{◌≡◌, ◌⊎◌, [], IsTrue, map, string_bytes, true};
 ghost use Rattle.ntfs_base.specs.Causes.{HaveNotFallen, Rose};
-ghost use Rattle.ntfs_base.specs.Stream.{after_put};
+ghost use Rattle.ntfs_base.specs.Sink.{after_put};
 ghost use Rattle.ntfsprogs.specs.Cat.{IfCat, IfDone, PutsStream};
 ghost use Rattle.ntfsprogs.specs.Make.{IfMake, LeavesOutput};
 ghost use Rattle.ntfsprogs.specs.Message.{message_of};

@@ -1,6 +1,6 @@
 //! Command lines over a shelf in memory.
 ghost use Rattle.std.specs.Prelude.{◌≡◌, ◌≤◌, [], length, vec_len, IfOk};
-ghost use Rattle.ntfs_base.specs.MemShelf.{seen_shelf};
+ghost use Rattle.ntfs_base.specs.MemShelf.{seen_mem_shelf};
 
 mod cat;
 mod make;
@@ -95,8 +95,8 @@ fn run_words(
     out: &mut MemSink,
     err: &mut MemSink,
 ) -> Result<Status, AllocError>
-    requires { (seen_shelf shelf.old.places.items shelf.old.attached.items).attached ≡ [] }
-    ensures { (seen_shelf shelf.new.places.items shelf.new.attached.items).attached ≡ [] }
+    requires { (seen_mem_shelf shelf.old.places.items shelf.old.attached.items).attached ≡ [] }
+    ensures { (seen_mem_shelf shelf.new.places.items shelf.new.attached.items).attached ≡ [] }
 {
     let words = texts(alloc, words)?;
     let mut input = MemSource::new(alloc, Vec::new(alloc));
@@ -345,7 +345,7 @@ fn words_are_refused(rt: HostRuntime) -> Result<(), Fail> {
 
 /// A volume whose every call can be made to fail.
 fn shelf_of_v0(alloc: Global) -> Result<MemShelf, AllocError>
-    ensures { IfOk result (λ shelf. (seen_shelf shelf.places.items shelf.attached.items).attached ≡ []) }
+    ensures { IfOk result (λ shelf. (seen_mem_shelf shelf.places.items shelf.attached.items).attached ≡ []) }
 {
     let mut shelf = MemShelf::new(alloc);
     shelf.add("v", image(alloc, V0_LEN, &V0)?)?;

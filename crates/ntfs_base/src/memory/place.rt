@@ -16,7 +16,7 @@ pub struct Place {
 ghost use Rattle.std.specs.Prelude.{◌≡◌, ◌++◌, [], ◌∷◌, Some, None, is_some, true, string_bytes, IfOk, IsSome, IsSomeAnd, IsTrue, OnOk, OnErr, IsErrOf};
 ghost use Rattle.std.specs.FinMap.{insert};
 ghost use Rattle.std.specs.Option.{option_map};
-ghost use Rattle.ntfs_base.specs.MemShelf.{index_of, place_of, bytes_of, files_of, failing_by, made_by, IsFresh, IsEmptyFile, KeepsFiles, KeepsCalls, CreatesFile, AttachesAsPlanned, CreatesAsPlanned, KeepsOthers, KeepsPlaces};
+ghost use Rattle.ntfs_base.specs.MemShelf.{index_of, place_of, place_bytes, files_of, failing_by, made_by, IsFresh, IsEmptyFile, KeepsFiles, KeepsCalls, CreatesFile, AttachesAsPlanned, CreatesAsPlanned, KeepsOthers, KeepsPlaces};
 ghost use Rattle.ntfs_base.specs.Shelf.{file_of};
 
 /// Where the first place of a name stands.
@@ -94,10 +94,10 @@ pub(crate) fn hand_out(alloc: Global, place: &mut Place) -> Result<MemFile, Shel
     ensures content { place.new.content ≡ place.old.content }
     ensures planned { AttachesAsPlanned (Some place.old) result (Some place.new) }
     ensures bears { IfOk result (λ file. string_bytes file.name ≡ string_bytes place.old.name) }
-    ensures bytes { IfOk result (λ file. bytes_of place.old ≡ Some file.inside.bytes.items) }
+    ensures bytes { IfOk result (λ file. place_bytes place.old ≡ Some file.inside.bytes.items) }
     ensures reads { IfOk result (λ file. file.inside.faults.reads ≡ 0) }
     ensures writes { IfOk result (λ file. file.inside.faults.writes ≡ 0) }
-    ensures absent { IsErrOf result ShelfFault.Absent → bytes_of place.old ≡ None }
+    ensures absent { IsErrOf result ShelfFault.Absent → place_bytes place.old ≡ None }
 {
     if place.calls.next().is_some() {
         return Err(ShelfFault::Failed);
@@ -152,10 +152,10 @@ fn make(alloc: Global, place: &mut Place, must_be_new: bool) -> Result<MemFile, 
     ensures name { place.new.name ≡ place.old.name }
     ensures planned { CreatesAsPlanned (Some place.old) result (Some place.new) }
     ensures file { IfOk result (IsEmptyFile (string_bytes place.old.name)) }
-    ensures created { OnOk result (bytes_of place.new ≡ Some []) }
+    ensures created { OnOk result (place_bytes place.new ≡ Some []) }
     ensures refused { OnErr result (place.new.content ≡ place.old.content) }
-    ensures fresh { IsTrue must_be_new → OnOk result (bytes_of place.old ≡ None) }
-    ensures present { IsErrOf result ShelfFault.Present → IsTrue must_be_new × IsSome (bytes_of place.old) }
+    ensures fresh { IsTrue must_be_new → OnOk result (place_bytes place.old ≡ None) }
+    ensures present { IsErrOf result ShelfFault.Present → IsTrue must_be_new × IsSome (place_bytes place.old) }
 {
     if place.calls.next().is_some() {
         return Err(ShelfFault::Failed);
@@ -206,7 +206,7 @@ fn create_at(
 
 fn fill(place: &mut Place, bytes: Vec<u8>, calls: Calls)
     ensures name { place.new.name ≡ place.old.name }
-    ensures bytes { bytes_of place.new ≡ Some bytes.items }
+    ensures bytes { place_bytes place.new ≡ Some bytes.items }
     ensures calls { place.new.calls ≡ calls }
 {
     place.content = Some(bytes);

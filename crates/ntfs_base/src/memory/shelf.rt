@@ -98,19 +98,19 @@ impl Shelf for MemShelf {
     ghost use Rattle.std.specs.Prelude.{◌≡◌, false, true, string_bytes, IsSomeAnd, IfOk, IfErr, OnOk, OnErr};
     ghost use Rattle.ntfs_base.specs.Causes.{HaveNotFallen};
     ghost use Rattle.ntfs_base.specs.Memory.{seen_of};
-    ghost use Rattle.ntfs_base.specs.MemShelf.{seen_shelf, place_of, AttachesAsPlanned, CreatesAsPlanned, KeepsOthers};
+    ghost use Rattle.ntfs_base.specs.MemShelf.{seen_mem_shelf, place_of, AttachesAsPlanned, CreatesAsPlanned, KeepsOthers};
     ghost use Rattle.ntfs_base.specs.Shelf.{IsHandedOut, IsCreated, AttachCause, CreateCause, after_attach, after_create, after_release, has_name, added_count};
 
-    ghost seen = { λ shelf. seen_shelf shelf.places.items shelf.attached.items };
+    ghost seen = { λ shelf. seen_mem_shelf shelf.places.items shelf.attached.items };
 
     ghost faults = { λ shelf. shelf.faults };
 
     fn attach(&mut self, name: &str) -> Result<MemFile, ShelfFault>
-        requires { has_name name.now (seen_shelf self.old.places.items self.old.attached.items).attached ≡ false }
-        ensures file { IfOk result (λ file. IsHandedOut (seen_shelf self.old.places.items self.old.attached.items) name.now (seen_of (string_bytes file.name) file.inside) file.inside.faults) }
-        ensures attached { OnOk result (seen_shelf self.new.places.items self.new.attached.items ≡ after_attach name.now (seen_shelf self.old.places.items self.old.attached.items)) }
-        ensures refused { OnErr result (seen_shelf self.new.places.items self.new.attached.items ≡ seen_shelf self.old.places.items self.old.attached.items) }
-        ensures refusal { IfErr result (λ fault. AttachCause fault (seen_shelf self.old.places.items self.old.attached.items) name.now self.old.faults self.new.faults) }
+        requires { has_name name.now (seen_mem_shelf self.old.places.items self.old.attached.items).attached ≡ false }
+        ensures file { IfOk result (λ file. IsHandedOut (seen_mem_shelf self.old.places.items self.old.attached.items) name.now (seen_of (string_bytes file.name) file.inside) file.inside.faults) }
+        ensures attached { OnOk result (seen_mem_shelf self.new.places.items self.new.attached.items ≡ after_attach name.now (seen_mem_shelf self.old.places.items self.old.attached.items)) }
+        ensures refused { OnErr result (seen_mem_shelf self.new.places.items self.new.attached.items ≡ seen_mem_shelf self.old.places.items self.old.attached.items) }
+        ensures refusal { IfErr result (λ fault. AttachCause fault (seen_mem_shelf self.old.places.items self.old.attached.items) name.now self.old.faults self.new.faults) }
         ensures counts { HaveNotFallen self.old.faults self.new.faults }
         ensures planned { AttachesAsPlanned (place_of name.now self.old.places.items) result (place_of name.now self.new.places.items) }
         ensures others { KeepsOthers name.now self.old.places.items self.new.places.items }
@@ -132,11 +132,11 @@ impl Shelf for MemShelf {
     }
 
     fn create(&mut self, name: &str, must_be_new: bool) -> Result<MemFile, ShelfFault>
-        requires { has_name name.now (seen_shelf self.old.places.items self.old.attached.items).attached ≡ false }
-        ensures file { IfOk result (λ file. IsCreated (seen_shelf self.old.places.items self.old.attached.items) name.now must_be_new (seen_of (string_bytes file.name) file.inside) file.inside.faults) }
-        ensures created { OnOk result (seen_shelf self.new.places.items self.new.attached.items ≡ after_create name.now (seen_shelf self.old.places.items self.old.attached.items)) }
-        ensures refused { OnErr result (seen_shelf self.new.places.items self.new.attached.items ≡ seen_shelf self.old.places.items self.old.attached.items) }
-        ensures refusal { IfErr result (λ fault. CreateCause fault (seen_shelf self.old.places.items self.old.attached.items) name.now must_be_new self.old.faults self.new.faults) }
+        requires { has_name name.now (seen_mem_shelf self.old.places.items self.old.attached.items).attached ≡ false }
+        ensures file { IfOk result (λ file. IsCreated (seen_mem_shelf self.old.places.items self.old.attached.items) name.now must_be_new (seen_of (string_bytes file.name) file.inside) file.inside.faults) }
+        ensures created { OnOk result (seen_mem_shelf self.new.places.items self.new.attached.items ≡ after_create name.now (seen_mem_shelf self.old.places.items self.old.attached.items)) }
+        ensures refused { OnErr result (seen_mem_shelf self.new.places.items self.new.attached.items ≡ seen_mem_shelf self.old.places.items self.old.attached.items) }
+        ensures refusal { IfErr result (λ fault. CreateCause fault (seen_mem_shelf self.old.places.items self.old.attached.items) name.now must_be_new self.old.faults self.new.faults) }
         ensures counts { HaveNotFallen self.old.faults self.new.faults }
         ensures planned { CreatesAsPlanned (place_of name.now self.old.places.items) result (place_of name.now self.new.places.items) }
         ensures others { KeepsOthers name.now self.old.places.items self.new.places.items }
@@ -158,8 +158,8 @@ impl Shelf for MemShelf {
     }
 
     fn release(&mut self, file: MemFile)
-        requires { has_name (string_bytes file.name) (seen_shelf self.old.places.items self.old.attached.items).attached ≡ true }
-        ensures released { seen_shelf self.new.places.items self.new.attached.items ≡ after_release (seen_of (string_bytes file.name) file.inside) (seen_shelf self.old.places.items self.old.attached.items) }
+        requires { has_name (string_bytes file.name) (seen_mem_shelf self.old.places.items self.old.attached.items).attached ≡ true }
+        ensures released { seen_mem_shelf self.new.places.items self.new.attached.items ≡ after_release (seen_of (string_bytes file.name) file.inside) (seen_mem_shelf self.old.places.items self.old.attached.items) }
         ensures reads { self.new.faults.reads ≡ added_count self.old.faults.reads file.inside.faults.reads }
         ensures writes { self.new.faults.writes ≡ added_count self.old.faults.writes file.inside.faults.writes }
         ensures counts { HaveNotFallen self.old.faults self.new.faults }

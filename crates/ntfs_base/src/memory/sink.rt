@@ -1,6 +1,6 @@
 use crate::calls::{Calls, front, one_more};
 use crate::fault::{Failed, PutFault, SinkFaults};
-use crate::stream::Sink;
+use crate::sink::Sink;
 use std::alloc::Global;
 
 /// A sink in memory. Its memory may be wanting.
@@ -43,7 +43,7 @@ impl Sink for MemSink {
     ghost use Rattle.ntfs_base.specs.Calls.{AsPlanned, count_after, front_by, next_failing, one_more as after_one_more};
     ghost use Rattle.ntfs_base.specs.Causes.{SinkCause, FlushCause};
     ghost use Rattle.ntfs_base.specs.MemStream.{seen_sink, PutsAsPlanned};
-    ghost use Rattle.ntfs_base.specs.Stream.{Put, PutsNothing};
+    ghost use Rattle.ntfs_base.specs.Sink.{Put, PutsNothing};
 
     ghost seen = { seen_sink };
 

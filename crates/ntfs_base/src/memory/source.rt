@@ -2,7 +2,7 @@ ghost use Rattle.std.specs.Prelude.{◌≤◌, length};
 
 use crate::calls::{Calls, one_more};
 use crate::fault::Failed;
-use crate::stream::Source;
+use crate::source::Source;
 use std::alloc::Global;
 
 /// A source in memory.
@@ -43,7 +43,7 @@ impl Source for MemSource {
     ghost use Rattle.ntfs_base.specs.Calls.{AsPlanned, count_after};
     ghost use Rattle.ntfs_base.specs.Causes.{SourceCause};
     ghost use Rattle.ntfs_base.specs.MemStream.{seen_source};
-    ghost use Rattle.ntfs_base.specs.Stream.{Gives, after_take};
+    ghost use Rattle.ntfs_base.specs.Source.{GivesNext, after_take};
 
     ghost seen = { seen_source };
 
@@ -51,7 +51,7 @@ impl Source for MemSource {
 
     fn take(&mut self, into: &mut [u8]) -> Result<usize, Failed>
         ensures room { IfOk result (λ n. n ≤ length into.old) }
-        ensures gives { IfOk result (λ n. Gives (seen_source self.old) n into.new) }
+        ensures gives { IfOk result (λ n. GivesNext (seen_source self.old) n into.new) }
         ensures given { IfOk result (λ n. seen_source self.new ≡ after_take n (seen_source self.old)) }
         ensures failed { OnErr result (seen_source self.new ≡ seen_source self.old) }
         ensures cause { SourceCause self.old.faults self.new.faults result }

@@ -1,6 +1,6 @@
 //! `ntfscat` over a small volume in memory.
 ghost use Rattle.std.specs.Prelude.{◌≡◌, [], IfOk};
-ghost use Rattle.ntfs_base.specs.MemShelf.{seen_shelf};
+ghost use Rattle.ntfs_base.specs.MemShelf.{seen_mem_shelf};
 
 use super::volume::{
     DATA, IN_USE, LIST, Sizes, first_record, record, resident, runs, small_volume, volume,
@@ -370,7 +370,7 @@ fn words_of_ntfscat_are_refused(rt: HostRuntime) -> Result<(), Fail> {
 }
 
 fn shelf_of(alloc: Global, bytes: Vec<u8>) -> Result<MemShelf, AllocError>
-    ensures { IfOk result (λ shelf. (seen_shelf shelf.places.items shelf.attached.items).attached ≡ []) }
+    ensures { IfOk result (λ shelf. (seen_mem_shelf shelf.places.items shelf.attached.items).attached ≡ []) }
 {
     let mut shelf = MemShelf::new(alloc);
     shelf.add("v", bytes)?;

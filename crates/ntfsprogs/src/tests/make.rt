@@ -1,6 +1,6 @@
 //! `ntfsmake` on a shelf in memory.
 ghost use Rattle.std.specs.Prelude.{◌≡◌, [], IfOk};
-ghost use Rattle.ntfs_base.specs.MemShelf.{seen_shelf};
+ghost use Rattle.ntfs_base.specs.MemShelf.{seen_mem_shelf};
 
 use super::{V0_LINES, V1_LINES, refuses, run_words, zeros};
 use crate::status::Status;
@@ -29,8 +29,8 @@ fn runs(
     text: &str,
     line: &str,
 ) -> Result<(), Fail>
-    requires { (seen_shelf shelf.old.places.items shelf.old.attached.items).attached ≡ [] }
-    ensures { (seen_shelf shelf.new.places.items shelf.new.attached.items).attached ≡ [] }
+    requires { (seen_mem_shelf shelf.old.places.items shelf.old.attached.items).attached ≡ [] }
+    ensures { (seen_mem_shelf shelf.new.places.items shelf.new.attached.items).attached ≡ [] }
 {
     let mut out = MemSink::new(alloc);
     let mut err = MemSink::new(alloc);

@@ -3,7 +3,7 @@ use Rattle.std.specs.Prelude.{IsTrue}
 use Rattle.std.proofs.lemmas.Result.{err_from_is_err_and}
 use Rattle.ntfs_base.specs.Bytes.{cluster_at}
 use Rattle.ntfs_base.specs.Image.{ImageState}
-use Rattle.ntfs_base.specs.Stream.{Put}
+use Rattle.ntfs_base.specs.Sink.{Put}
 use Rattle.ntfs_runs.specs.Clusters.{row, vcns}
 use Rattle.ntfs_show.specs.Cells.{are_cells, map_cells}
 use Rattle.ntfs_show.specs.Putting.{IsLeft}

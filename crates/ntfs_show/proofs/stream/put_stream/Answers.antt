@@ -1,7 +1,7 @@
 use Rattle.std.proofs.Common.{◌≡◌, ◌≤◌, sym, ap, ◌∙◌, subst, ℕ, length, List}
 use Rattle.std.proofs.lemmas.Result.{err_from_is_err_and}
 use Rattle.ntfs_base.specs.Bytes.{cluster_at}
-use Rattle.ntfs_base.specs.Stream.{Put, after_put}
+use Rattle.ntfs_base.specs.Sink.{Put, after_put}
 use Rattle.ntfs_boot.specs.Geometry.{volume_bytes}
 use Rattle.ntfs_runs.specs.Clusters.{vcns}
 use Rattle.ntfs_runs.specs.declared.run.Run.{Run}

@@ -1,5 +1,5 @@
 use Rattle.std.proofs.Common.{sym, map, string_bytes}
-use Rattle.ntfs_base.specs.declared.meaning.UsageKind.TheVariants as usage
+use Rattle.ntfs_base.specs.declared.refusal.UsageKind.TheVariants as usage
 use Rattle.ntfsprogs.specs.Make.{make_line_outcome}
 use Rattle.ntfsprogs.specs.declared.status.Status.TheVariants as status
 use Rattle.ntfsprogs.proofs.MakeLemmas.{answers_number, told-none}

@@ -1,4 +1,4 @@
-use Rattle.ntfs_base.proofs.StreamLemmas.{put_no_bytes}
+use Rattle.ntfs_base.proofs.SinkLemmas.{put_no_bytes}
 use Rattle.ntfsprogs.proofs.message.put_message.Goals as goal
 
 pub returns-in-Done-clause-put : goal.returns-in-Done-clause-put

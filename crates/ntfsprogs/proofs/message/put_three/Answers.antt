@@ -1,4 +1,4 @@
-use Rattle.ntfs_base.proofs.StreamLemmas.{put_then}
+use Rattle.ntfs_base.proofs.SinkLemmas.{put_then}
 use Rattle.ntfsprogs.proofs.message.put_three.Goals as goal
 
 pub returns-clause-put : goal.returns-clause-put

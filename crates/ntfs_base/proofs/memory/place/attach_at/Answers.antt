@@ -1,5 +1,5 @@
 use Rattle.std.proofs.Common.{rules, sym, ap, ◌∙◌, ℕ, List, string_bytes, is_some}
-use Rattle.ntfs_base.specs.MemShelf.{bytes_of}
+use Rattle.ntfs_base.specs.MemShelf.{place_bytes}
 use Rattle.ntfs_base.proofs.ShelfLemmas.{stands_at, named_there, place_of-there, file_there, place_of-set, place_there, kept_by_set, IfOk-then}
 use Rattle.std.specs.Option.{option_map, option_and_then}
 use Rattle.ntfs_base.proofs.memory.place.attach_at.Goals as goal
@@ -28,7 +28,7 @@ returns c =
     record {
       files =
           kept_by_set _ _ _ _ named is
-          (ap (option_map (λ v. v.items)) c.hand_out.ensures.content ∙ sym (ap (option_and_then bytes_of) before));
+          (ap (option_map (λ v. v.items)) c.hand_out.ensures.content ∙ sym (ap (option_and_then place_bytes) before));
       planned = rw (before, after) c.hand_out.ensures.planned;
       placed = ap is_some after;
       bears = IfOk-then _ _ c.hand_out.result (λ file is. is ∙ was) c.hand_out.ensures.bears;

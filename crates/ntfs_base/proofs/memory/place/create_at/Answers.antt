@@ -1,5 +1,5 @@
 use Rattle.std.proofs.Common.{rules, sym, ap, ◌∙◌, ℕ, List, string_bytes, is_some, subst, IfOk, IsSome}
-use Rattle.ntfs_base.specs.MemShelf.{bytes_of, IsEmptyFile}
+use Rattle.ntfs_base.specs.MemShelf.{place_bytes, IsEmptyFile}
 use Rattle.ntfs_base.proofs.ShelfLemmas.{stands_at, named_there, place_of-there, file_there, place_of-set, place_there, created_by_set, OnOk-then, OnErr-then}
 use Rattle.std.specs.Option.{option_map, option_and_then}
 use Rattle.ntfs_base.proofs.memory.place.create_at.Goals as goal
@@ -27,7 +27,7 @@ returns c =
     let after = place_there _ _ _ _ named is in
     record {
       files =
-          created_by_set _ _ _ _ c.make.result named is c.make.ensures.created (OnErr-then _ _ c.make.result (λ same. ap (option_map (λ v. v.items)) same ∙ sym (ap (option_and_then bytes_of) before)) c.make.ensures.refused);
+          created_by_set _ _ _ _ c.make.result named is c.make.ensures.created (OnErr-then _ _ c.make.result (λ same. ap (option_map (λ v. v.items)) same ∙ sym (ap (option_and_then place_bytes) before)) c.make.ensures.refused);
       planned = rw (before, after) c.make.ensures.planned;
       placed = ap is_some after;
       file = subst (λ name. IfOk c.make.result (IsEmptyFile name)) was c.make.ensures.file;

@@ -1,6 +1,6 @@
 use Rattle.std.proofs.Common.{rules, sym, ap, ◌∙◌, ℕ, List, string_bytes}
 use Rattle.std.specs.Option.{option_map, option_and_then}
-use Rattle.ntfs_base.specs.MemShelf.{bytes_of}
+use Rattle.ntfs_base.specs.MemShelf.{place_bytes}
 use Rattle.ntfs_base.proofs.ShelfLemmas.{stands_at, named_there, place_of-there, place_of-set, place_there, kept_by_set}
 use Rattle.ntfs_base.proofs.memory.place.fail_at.Goals as goal
 
@@ -24,6 +24,6 @@ returns c =
     record {
       files =
           kept_by_set _ _ _ _ named is
-          (ap (option_map (λ v. v.items)) c.fail_here.ensures.content ∙ sym (ap (option_and_then bytes_of) before));
+          (ap (option_map (λ v. v.items)) c.fail_here.ensures.content ∙ sym (ap (option_and_then place_bytes) before));
       ok = rw (before, after) c.fail_here.ensures.ok;
     }

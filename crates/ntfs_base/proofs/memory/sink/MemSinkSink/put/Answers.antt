@@ -1,5 +1,5 @@
 use Rattle.std.proofs.Common.{rules}
-use Rattle.ntfs_base.proofs.StreamLemmas.{put_whole, put_front, put_none}
+use Rattle.ntfs_base.proofs.SinkLemmas.{put_whole, put_front, put_none}
 use Rattle.ntfs_base.proofs.memory.sink.MemSinkSink.put.Goals as goal
 
 pub returns-then-is_err-clause-put : goal.returns-then-is_err-clause-put

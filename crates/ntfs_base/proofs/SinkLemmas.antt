@@ -3,7 +3,7 @@ use Rattle.std.proofs.Common.{◌≡◌, ◌≤◌, ◌+◌, ℕ, List, [], ◌+
 use Rattle.std.proofs.Math.Seq.{take-append-add}
 use Rattle.std.proofs.lemmas.List.{take_min, take_all, take-append-le, append-nil}
 use Rattle.ntfs_base.specs.Calls.{front_by}
-use Rattle.ntfs_base.specs.Stream.{SinkState, Put, after_put}
+use Rattle.ntfs_base.specs.Sink.{SinkState, Put, after_put}
 use Rattle.ntfs_base.specs.declared.calls.Leaves.{Leaves}
 use Rattle.ntfs_base.specs.declared.calls.Leaves.TheVariants as leaves
 

@@ -1,28 +1,9 @@
-ghost use Rattle.std.specs.Prelude.{◌≡◌, ◌≤◌, ℕ, Bool, true, false, length, IsTrue, OnOk, OnErr, IfOk, IfErr};
-ghost use Rattle.ntfs_base.specs.Causes.{SourceCause, SinkCause, FlushCause};
-ghost use Rattle.ntfs_base.specs.Stream.{SourceState, SinkState, Gives, Put, PutsNothing, after_take};
+ghost use Rattle.std.specs.Prelude.{◌≡◌, Bool, true, false, OnOk, OnErr, IfErr};
+ghost use Rattle.ntfs_base.specs.Causes.{SinkCause, FlushCause};
+ghost use Rattle.ntfs_base.specs.Sink.{SinkState, Put, PutsNothing};
 ghost use Rattle.ntfs_base.specs.declared.fault.SinkFaults.{SinkFaults as SinkCounts};
 
 use crate::fault::{Failed, PutFault};
-
-/// Bytes that come in order, once, as those of standard input.
-pub trait Source {
-    /// What contracts see of it.
-    ghost seen: { Self → SourceState };
-
-    /// How often its calls have failed.
-    ghost faults: { Self → ℕ };
-
-    /// Puts the next bytes at the front of the slice and answers how many: none only at the end, or where the slice is
-    /// empty. What stands behind them in the slice may change. After `Failed` none was given, and the slice holds
-    /// anything.
-    fn take(&mut self, into: &mut [u8]) -> Result<usize, Failed>
-        ensures room { IfOk result (λ n. n ≤ length into.old) }
-        ensures gives { IfOk result (λ n. IsTrue (seen self.old).is_told → Gives (seen self.old) n into.new) }
-        ensures given { IfOk result (λ n. seen self.new ≡ after_take n (seen self.old)) }
-        ensures failed { OnErr result (seen self.new ≡ seen self.old) }
-        ensures cause { SourceCause (faults self.old) (faults self.new) result };
-}
 
 /// What takes bytes in order, as standard output does.
 pub trait Sink {
