@@ -1,7 +1,7 @@
 -- How every crate reads bytes: numbers and pieces at a place, the bytes of a cluster, of a list of clusters, and of
 -- the r-th piece of a size; and bytes that are put at a place. A list of bytes is a list of numbers below 256. All
 -- numbers of NTFS on disk are little-endian (the Linux-NTFS documentation, "Concepts"); the words are ours.
-use Rattle.std.specs.Prelude.{◌≡◌, ◌<◌, ◌^◌, ◌+◌, ◌*◌, ℕ, List, [], ◌∷◌, ◌++◌, length, map, take, drop, slice_index, Option, Some, None, nat_le, if◌then◌else◌}
+use Rattle.std.specs.Prelude.{◌≡◌, ◌<◌, ◌^◌, ◌+◌, ◌-◌, ◌*◌, ◌/◌, ℕ, List, [], ◌∷◌, ◌++◌, length, map, take, drop, slice_index, Option, Some, None, nat_le, if◌then◌else◌}
 use Rattle.std.specs.List.{Contains}
 use Rattle.byteorder.specs.Endian.{little_from}
 
@@ -47,6 +47,10 @@ read_clusters image c ks = map (fill_cluster (cluster_at image c)) ks
 abbrev pub join_clusters : List Cluster → List ℕ
 join_clusters [] = []
 join_clusters (cluster ∷ clusters) = cluster.bytes ++ join_clusters clusters
+
+-- how many clusters of c bytes these bytes need
+unfoldable pub clusters_for : ℕ → ℕ → ℕ
+clusters_for bytes c = (bytes + (c - 1)) / c
 
 -- the r-th piece of a size, where it lies wholly in the bytes
 unfoldable pub raw_of : ℕ → List ℕ → ℕ → Option (List ℕ)

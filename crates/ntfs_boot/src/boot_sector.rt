@@ -3,7 +3,8 @@ ghost use Rattle.ntfs_boot.specs.BootSector.{fields_of};
 
 use byteorder::{ByteOrder, LittleEndian};
 
-/// The fields of a boot sector that tell the geometry, as they stand there.
+/// The fields of a boot sector that tell the geometry, as they stand there; specs/BootSector.antt has their names in the
+/// documentation.
 #[derive(Clone, Copy)]
 pub(crate) struct BootSector {
     pub bytes_per_sector: u16,

@@ -1,7 +1,10 @@
-ghost use Rattle.std.specs.Prelude.{◌≡◌, ◌<◌, ◌^◌, ◌*◌, ◌≤◌, ◌+◌, ◌%◌, length, MatchOption, IfOk, IfSome, SomeIff, true, false};
+ghost use Rattle.std.specs.Prelude.{◌≡◌, ◌<◌, ◌^◌, ◌≤◌, ◌+◌, ◌%◌, IfOk, IfErr, OnOk, OnErr, true, false};
 ghost use Rattle.std.specs.Str.{bytes_eq};
+ghost use Rattle.ntfs_base.specs.Bytes.{clusters_for};
 ghost use Rattle.ntfs_boot.specs.BootSector.{oem_id_of, ntfs_id};
-ghost use Rattle.ntfs_boot.specs.Geometry.{IsGood, boot_geometry, clusters_for, coded_size, is_block_size, is_cluster_count, is_record_size, is_sector_count, is_sector_size, lies_within, sector_geometry};
+ghost use Rattle.ntfs_boot.specs.Geometry.{IsBootRefusal, IsGood, boot_geometry, coded_size};
+ghost use Rattle.ntfs_boot.specs.Geometry.{is_block_size, is_cluster_count, is_record_size, is_sector_count, is_sector_size};
+ghost use Rattle.ntfs_boot.specs.Geometry.{lies_within, sector_geometry};
 
 use crate::boot_sector::BootSector;
 
@@ -33,9 +36,9 @@ pub struct Geometry {
 pub enum BootFault {
     /// The eight bytes from 3 on aren't `NTFS` and four spaces.
     NotNtfs,
-    /// The first field, of eight in their order, that is wrong, and its value: 1 bytes per sector, 2 sectors per
-    /// cluster, 3 bytes per cluster, 4 the code of the record size, 5 that of the index block size, 6 the number of
-    /// sectors, 7 the cluster of $MFT, 8 that of $MFTMirr.
+    /// The first field, of eight in their order, that is wrong, and its value: 1 `bytes_per_sector`,
+    /// 2 `sectors_per_cluster`, 3 the bytes of a cluster, 4 `clusters_per_mft_record`, 5 `clusters_per_index_record`,
+    /// 6 `number_of_sectors`, 7 `mft_lcn`, 8 `mftmirr_lcn`.
     BadGeometry { field: u8, value: u64 },
 }
 
@@ -48,6 +51,7 @@ pub enum BootFault {
 pub fn read_geometry(sector: &[u8; 512]) -> Result<Geometry, BootFault>
     ensures exact { result ≡ sector_geometry sector.now }
     ensures good { IfOk result IsGood }
+    ensures refuses { IfErr result IsBootRefusal }
 {
     if !says_ntfs(sector) {
         return Err(BootFault::NotNtfs);
@@ -69,33 +73,23 @@ fn geometry_of(b: &BootSector) -> Result<Geometry, BootFault>
     ensures good { IfOk result IsGood }
 {
     let sector = u32::from(b.bytes_per_sector);
-    if !is_sector_size(sector) {
-        return Err(wrong(1, u64::from(sector)));
-    }
+    must(is_sector_size(sector), 1, u64::from(sector))?;
     let count = u32::from(b.sectors_per_cluster);
-    if !is_sector_count(count) {
-        return Err(wrong(2, u64::from(count)));
-    }
+    must(is_sector_count(count), 2, u64::from(count))?;
     let cluster = sector * count;
-    if cluster > 65_536 {
-        return Err(wrong(3, u64::from(cluster)));
-    }
-    let Some(record_size) = record_size_of(b.record_code, cluster) else {
-        return Err(wrong(4, u64::from(b.record_code)));
-    };
-    let Some(block) = block_size_of(b.block_code, cluster) else {
-        return Err(wrong(5, u64::from(b.block_code)));
-    };
+    must(cluster <= 65_536, 3, u64::from(cluster))?;
+    let record_size = coded_size(b.record_code, cluster);
+    must(is_record_size(record_size), 4, u64::from(b.record_code))?;
+    let block = coded_size(b.block_code, cluster);
+    must(is_block_size(block), 5, u64::from(b.block_code))?;
     let clusters = b.sectors / u64::from(b.sectors_per_cluster);
-    if !is_cluster_count(clusters) {
-        return Err(wrong(6, b.sectors));
-    }
-    if !lies_within(b.mft, record_size, cluster, clusters) {
-        return Err(wrong(7, b.mft));
-    }
-    if !lies_within(b.mirror, 4 * record_size, cluster, clusters) {
-        return Err(wrong(8, b.mirror));
-    }
+    must(is_cluster_count(clusters), 6, b.sectors)?;
+    must(lies_within(b.mft, record_size, cluster, clusters), 7, b.mft)?;
+    must(
+        lies_within(b.mirror, 4 * record_size, cluster, clusters),
+        8,
+        b.mirror,
+    )?;
     Ok(Geometry {
         sector,
         cluster,
@@ -109,10 +103,17 @@ fn geometry_of(b: &BootSector) -> Result<Geometry, BootFault>
     })
 }
 
-fn wrong(field: u8, value: u64) -> BootFault
-    ensures { result ≡ BootFault.BadGeometry field value }
+/// Refuses the value of a field where it isn't right.
+fn must(is_right: bool, field: u8, value: u64) -> Result<(), BootFault>
+    ensures right { OnOk result (is_right ≡ true) }
+    ensures wrong { OnErr result (is_right ≡ false) }
+    ensures refuses { IfErr result (λ fault. fault ≡ BootFault.BadGeometry field value) }
 {
-    BootFault::BadGeometry { field, value }
+    if is_right {
+        Ok(())
+    } else {
+        Err(BootFault::BadGeometry { field, value })
+    }
 }
 
 #[tactic(auto, unfolding(crate::specs::Geometry::is_sector_size))]
@@ -149,7 +150,7 @@ fn is_cluster_count(count: u64) -> bool
     0 < count && count < 1 << 32
 }
 
-#[tactic(auto, unfolding(crate::specs::Geometry::lies_within, crate::specs::Geometry::clusters_for))]
+#[tactic(auto, unfolding(crate::specs::Geometry::lies_within, ntfs_base::specs::Bytes::clusters_for))]
 fn lies_within(first: u64, bytes: u32, cluster: u32, clusters: u64) -> bool
     requires cluster { (512 ≤ cluster) × (cluster ≤ 65536) }
     requires bytes { bytes ≤ 65536 }
@@ -160,64 +161,18 @@ fn lies_within(first: u64, bytes: u32, cluster: u32, clusters: u64) -> bool
     need <= clusters && first <= clusters - need
 }
 
-/// The size that a signed byte tells, where it is below 2^32.
-fn coded_size(code: u8, cluster: u32) -> Option<u32>
+/// The size that a signed byte tells, or 0 for one of 2^32 bytes or more.
+#[tactic(auto, unfolding(crate::specs::Geometry::coded_size))]
+fn coded_size(code: u8, cluster: u32) -> u32
     requires { cluster ≤ 65536 }
-    ensures { SomeIff result (coded_size code cluster < 2 ^ 32) (coded_size code cluster) }
+    ensures { result ≡ coded_size code cluster }
 {
     if code < 128 {
-        Some(u32::from(code) * cluster)
+        u32::from(code) * cluster
+    } else if code > 224 {
+        1 << (256 - u32::from(code))
     } else {
-        power_of_two(256 - u32::from(code))
-    }
-}
-
-fn power_of_two(exponent: u32) -> Option<u32>
-    requires { exponent ≤ 128 }
-    ensures { SomeIff result (2 ^ exponent < 2 ^ 32) (2 ^ exponent) }
-{
-    if exponent < 32 {
-        Some(1 << exponent)
-    } else {
-        None
-    }
-}
-
-#[tactic(auto, using(crate::proofs::GeometryLemmas::large_sizes))]
-fn record_size_of(code: u8, cluster: u32) -> Option<u32>
-    requires { cluster ≤ 65536 }
-    ensures value { MatchOption result (is_record_size (coded_size code cluster) ≡ false) (λ size. (is_record_size (coded_size code cluster) ≡ true) × (size ≡ coded_size code cluster)) }
-    ensures bounds { IfSome result (λ size. (1024 ≤ size) × (size ≤ 4096)) }
-    ensures strides { IfSome result (λ size. size % 512 ≡ 0) }
-{
-    match coded_size(code, cluster) {
-        None => None,
-        Some(size) => {
-            if is_record_size(size) {
-                Some(size)
-            } else {
-                None
-            }
-        }
-    }
-}
-
-#[tactic(auto, using(crate::proofs::GeometryLemmas::large_sizes))]
-fn block_size_of(code: u8, cluster: u32) -> Option<u32>
-    requires { cluster ≤ 65536 }
-    ensures value { MatchOption result (is_block_size (coded_size code cluster) ≡ false) (λ size. (is_block_size (coded_size code cluster) ≡ true) × (size ≡ coded_size code cluster)) }
-    ensures bounds { IfSome result (λ size. (1024 ≤ size) × (size ≤ 65536)) }
-    ensures strides { IfSome result (λ size. size % 512 ≡ 0) }
-{
-    match coded_size(code, cluster) {
-        None => None,
-        Some(size) => {
-            if is_block_size(size) {
-                Some(size)
-            } else {
-                None
-            }
-        }
+        0
     }
 }
 

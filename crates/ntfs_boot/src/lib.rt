@@ -7,3 +7,6 @@ mod volume;
 
 pub use geometry::{BootFault, Geometry, read_geometry};
 pub use volume::{ImageFault, read_volume_geometry};
+
+#[cfg(test)]
+mod tests;

@@ -1,6 +1,6 @@
-ghost use Rattle.std.specs.Prelude.{◌≡◌, ◌≢◌, ◌≤◌, IfOk, IsErrOf, IsTrue, Err};
-ghost use Rattle.ntfs_base.specs.Causes.{HaveNotFallen, Rose};
-ghost use Rattle.ntfs_boot.specs.Geometry.{IsGood, Judges, if_held, sector_geometry, volume_bytes, volume_geometry, widened};
+ghost use Rattle.std.specs.Prelude.{◌≡◌, ◌≤◌, IfOk, IfErr};
+ghost use Rattle.ntfs_base.specs.Frames.{Gives, IfTold, IsJudged, OnlyReads};
+ghost use Rattle.ntfs_boot.specs.Geometry.{IsGood, IsOpened, IsRefusal, bytes_of_clusters, geometry_in, image_origin, volume_geometry};
 
 use crate::geometry::{BootFault, Geometry, read_geometry};
 use ntfs_base::{Failed, Image};
@@ -45,12 +45,10 @@ impl From<Failed> for ImageFault {
 
 /// Reads the geometry of an image, which has to have 512 bytes for the boot sector and then all bytes of its clusters.
 pub fn read_volume_geometry<G: Image>(image: &mut G) -> Result<Geometry, ImageFault>
-    ensures told { IsTrue (G.seen image.old).is_told → Judges result (volume_geometry (G.seen image.old).content) }
-    ensures good { IfOk result IsGood }
-    ensures held { IfOk result (λ g. volume_bytes g ≤ (G.seen image.old).size) }
-    ensures seen { G.seen image.new ≡ G.seen image.old }
-    ensures counts { HaveNotFallen (G.faults image.old) (G.faults image.new) }
-    ensures cause { IsErrOf result ImageFault.ReadFault → Rose (G.faults image.old).reads (G.faults image.new).reads }
+    ensures gives { IfTold G.Image image.old (λ content. Gives image_origin (λ g. g) (volume_geometry content) result) }
+    ensures opened { IfOk result (IsOpened (G.seen image.old).size) }
+    ensures refuses { IfErr result (IsRefusal (G.seen image.old).size) }
+    ensures reads { OnlyReads G.Image image_origin image.old image.new result }
 {
     let len = image.len();
     if len < 512 {
@@ -58,27 +56,29 @@ pub fn read_volume_geometry<G: Image>(image: &mut G) -> Result<Geometry, ImageFa
     }
     let mut sector = [0; 512];
     image.read_at(0, &mut sector)?;
-    judge(&sector, len)
+    geometry_in(len, &sector)
 }
 
-fn judge(sector: &[u8; 512], len: u64) -> Result<Geometry, ImageFault>
-    ensures exact { result ≡ if_held len (widened (sector_geometry sector.now)) }
-    ensures good { IfOk result IsGood }
-    ensures held { IfOk result (λ g. volume_bytes g ≤ len) }
-    ensures judged { result ≢ Err ImageFault.ReadFault }
+/// The geometry that a boot sector gives, of an image of this length that has all its clusters.
+fn geometry_in(len: u64, sector: &[u8; 512]) -> Result<Geometry, ImageFault>
+    requires { 512 ≤ len }
+    ensures exact { result ≡ geometry_in len sector.now }
+    ensures opened { IfOk result (IsOpened len) }
+    ensures refuses { IfErr result (IsRefusal len) }
+    ensures judged { IsJudged image_origin result }
 {
     let geometry = read_geometry(sector)?;
-    let need = volume_bytes_of(&geometry);
+    let need = bytes_of_clusters(&geometry);
     if len < need {
         return Err(ImageFault::ImageShort { len, need });
     }
     Ok(geometry)
 }
 
-/// The bytes that the clusters of a good geometry need.
-fn volume_bytes_of(geometry: &Geometry) -> u64
+/// The bytes of all clusters of a good geometry.
+fn bytes_of_clusters(geometry: &Geometry) -> u64
     requires { IsGood geometry.now }
-    ensures { result ≡ volume_bytes geometry.now }
+    ensures { result ≡ bytes_of_clusters geometry.now }
 {
     geometry.clusters * u64::from(geometry.cluster)
 }
