@@ -1,109 +1,87 @@
--- The outcome, step by step, and answers that give it.
-use Rattle.std.proofs.Common.{◌≡◌, ℕ, List, refl, sym, ap, ◌∙◌, arith, Bool, true, false, Option, Some, None, Result, Ok, Err, if◌then◌else◌}
-use Rattle.ntfs_base.specs.Sink.{SinkState, after_put}
+-- The outcome, step by step.
+use Rattle.std.proofs.Common.{◌≡◌, ◌==◌, ℕ, List, refl, ap, Bool, true, false, Option, Some, None, Result, Ok, Err}
+use Rattle.std.specs.Option.{ok_or}
+use Rattle.ntfs_base.specs.Frames.{refused_as}
 use Rattle.ntfs_base.specs.declared.refusal.Missing.TheVariants as missing
 use Rattle.ntfs_base.specs.declared.refusal.Rule.TheVariants as rule
-use Rattle.ntfs_base.proofs.SinkLemmas.{after_put-nil}
-use Rattle.ntfs_boot.specs.Geometry.{volume_geometry}
+use Rattle.ntfs_boot.specs.Geometry.{image_origin, volume_geometry}
 use Rattle.ntfs_boot.specs.declared.geometry.Geometry.{Geometry}
 use Rattle.ntfs_boot.specs.declared.volume.ImageFault.{ImageFault}
-use Rattle.ntfs_fixup.specs.Fixups.{unfixed}
-use Rattle.ntfs_fixup.specs.declared.header.Magic.TheVariants.{File}
-use Rattle.ntfs_fixup.specs.declared.unfixing.FixFault.{FixFault}
-use Rattle.ntfs_record.specs.Entry.{Entry}
-use Rattle.ntfs_record.specs.Parsed.{parsed}
-use Rattle.ntfs_record.specs.declared.fault.RecordFault.{RecordFault}
-use Rattle.ntfs_show.specs.Cat.{Cats, IsSettledFault, answer_of, cat_outcome, geometry_fault, map_outcome, output_of, shown, stream_at, volume_outcome}
+use Rattle.ntfs_boot.specs.declared.volume.ImageFault.TheVariants as image
+use Rattle.ntfs_record.specs.Entry.{Entry, map_parts}
+use Rattle.ntfs_show.specs.Cat.{cat_origin, cat_outcome, geometry_fault, plain_bytes, record_outcome, stream_at}
 use Rattle.ntfs_show.specs.Cells.{cells_below}
-use Rattle.ntfs_show.specs.Gather.{Stream, gather}
-use Rattle.ntfs_show.specs.MftMap.{Map, mft_map, record_bytes}
-use Rattle.ntfs_show.specs.Reading.{block_of, block_stream, entry_stream, live_block, or_no_map, parsed_stream, unfixed_block}
-use Rattle.ntfs_show.specs.Records.{entry_in, if_parsed, if_unfixed, is_in_use, live_slot, map_slot, slot_of, sound_slot, tells_own, unsound_slot}
+use Rattle.ntfs_show.specs.Gather.{Stream, gather, stream_in}
+use Rattle.ntfs_show.specs.MftMap.{Map, mft_map, raw_record}
+use Rattle.ntfs_show.specs.Records.{entry_in, is_in_use, map_slot, own_slot, slot_of, tells_own}
 use Rattle.ntfs_show.specs.StreamBytes.{is_plain}
 use Rattle.ntfs_show.specs.declared.cat_fault.CatFault.{CatFault}
 use Rattle.ntfs_show.specs.declared.cat_fault.CatFault.TheVariants as cat
 
--- nothing was put, and where the work wasn't cut off, nothing was to be put
-pub cats-none : (outcome : Result (List ℕ) CatFault) (fault : CatFault) (sink : SinkState) → (IsSettledFault fault → outcome ≡ Err fault) → Cats outcome sink (Err fault) sink
-cats-none outcome fault sink is = record {
-  answer = λ settled. sym (ap answer_of (is settled));
-  output = λ settled. sym (ap (λ o. after_put (output_of o) sink) (is settled) ∙ after_put-nil sink);
-  front = (0, omega arith, sym (after_put-nil sink));
-}
+pub geometry-origin : (fault : ImageFault) → cat_origin (geometry_fault fault) ≡ image_origin fault
+geometry-origin image.NotNtfs = refl
+geometry-origin (image.BadGeometry field value) = refl
+geometry-origin (image.ImageShort len need) = refl
+geometry-origin image.ReadFault = refl
 
 -- a stream that isn't plain
-pub shown-refused : (g : Geometry) (content : List ℕ) (s : Stream ℕ) → is_plain s.flags ≡ false → shown g content (Ok s) ≡ Err (cat.NotPlain s.flags)
-shown-refused g content s is = rw is refl
+pub plain-refused : (g : Geometry) (content : List ℕ) (s : Stream ℕ) → is_plain s.flags ≡ false → plain_bytes g content s ≡ Err (cat.NotPlain s.flags)
+plain-refused g content s is = rw is refl
 
 -- ---- a record's stream
 
-refused-by : (g : Geometry) (r : ℕ) (raw : List ℕ) (use_it : Bool) (fixed : Result (List ℕ) FixFault) (fault : CatFault)
-    → (if use_it then unfixed_block r fixed else Err (cat.NotFound (missing.Record r))) ≡ Err fault
-    → gather g.cluster r (map_slot (cells_below g.clusters) (if use_it then live_slot r raw (if_unfixed fixed) else unsound_slot false raw)) ≡ Err fault
+pub stream-idle : (g : Geometry) (r : ℕ) (raw : List ℕ) → is_in_use raw ≡ false → stream_at g r (Some raw) ≡ Err (cat.NotFound (missing.Record r))
+unfolding stream_at slot_of gather
+stream-idle g r raw is = rw is refl
+
+pub stream-unsound : (g : Geometry) (r : ℕ) (raw : List ℕ) → is_in_use raw ≡ true → entry_in raw ≡ None → stream_at g r (Some raw) ≡ Err (cat.Damaged rule.C4 r)
+unfolding stream_at slot_of gather
+stream-unsound g r raw live none = rw (live, none) refl
+
+pub stream-sound : (g : Geometry) (r : ℕ) (raw : List ℕ) (entry : Entry (List ℕ)) → is_in_use raw ≡ true → entry_in raw ≡ Some entry
+    → stream_at g r (Some raw) ≡ gather g.cluster r (map_slot (cells_below g.clusters) (own_slot r entry))
+unfolding stream_at slot_of
+stream-sound g r raw entry live sound = rw (live, sound) refl
+
+pub own-other : (c n r : ℕ) (entry : Entry (List ℕ)) → tells_own r entry.head.number ≡ false → gather c r (map_slot (cells_below n) (own_slot r entry)) ≡ Err (cat.Damaged rule.C4 r)
 unfolding gather
-refused-by g r raw false fixed fault is = let same : cat.NotFound (missing.Record r) ≡ fault = cc in ap Err same
-refused-by g r raw true (Err torn) fault is = let same : cat.Damaged rule.C4 r ≡ fault = cc in ap Err same
-refused-by g r raw true (Ok block) fault is = absurd cc
+own-other c n r entry is = rw is refl
 
-entry-by : (g : Geometry) (r : ℕ) (raw : List ℕ) (entry : Entry (List ℕ)) (own : Bool)
-    → gather g.cluster r (map_slot (cells_below g.clusters) (if own then sound_slot entry else unsound_slot true raw))
-    ≡ (if own then gather g.cluster r (map_slot (cells_below g.clusters) (sound_slot entry)) else Err (cat.Damaged rule.C4 r))
+pub own-extension : (c n r : ℕ) (entry : Entry (List ℕ)) → tells_own r entry.head.number ≡ true → (entry.head.base == 0) ≡ false
+    → gather c r (map_slot (cells_below n) (own_slot r entry)) ≡ Err (cat.NotFound (missing.Record r))
 unfolding gather
-entry-by g r raw entry true = refl
-entry-by g r raw entry false = refl
+own-extension c n r entry is other = rw (is, other) refl
 
-parsed-by : (g : Geometry) (r : ℕ) (raw : List ℕ) (read : Result (Entry (List ℕ)) RecordFault) → gather g.cluster r (map_slot (cells_below g.clusters) (live_slot r raw (if_parsed read))) ≡ parsed_stream g r read
-unfolding gather entry_stream
-parsed-by g r raw (Err fault) = refl
-parsed-by g r raw (Ok entry) = entry-by g r raw entry (tells_own r entry.head.number)
+pub own-base : (c n r : ℕ) (entry : Entry (List ℕ)) → tells_own r entry.head.number ≡ true → (entry.head.base == 0) ≡ true
+    → gather c r (map_slot (cells_below n) (own_slot r entry)) ≡ stream_in c r (map_parts (cells_below n) entry.parts)
+unfolding gather
+own-base c n r entry is base = rw (is, base) refl
 
-block-by : (g : Geometry) (r : ℕ) (raw block : List ℕ) (use_it : Bool) (fixed : Result (List ℕ) FixFault)
-    → (if use_it then unfixed_block r fixed else Err (cat.NotFound (missing.Record r))) ≡ Ok block
-    → gather g.cluster r (map_slot (cells_below g.clusters) (if use_it then live_slot r raw (if_unfixed fixed) else unsound_slot false raw)) ≡ block_stream g r block
-unfolding block_stream
-block-by g r raw block false fixed is = absurd cc
-block-by g r raw block true (Err torn) is = absurd cc
-block-by g r raw block true (Ok bytes) is =
-    let same : bytes ≡ block = cc in
-    parsed-by g r raw (parsed bytes) ∙ ap (λ xs. parsed_stream g r (parsed xs)) same
+pub ruleset slot_steps = (stream-idle, stream-unsound, stream-sound)
 
-pub stream-refused : (g : Geometry) (r : ℕ) (raw : Option (List ℕ)) (fault : CatFault) → block_of r raw ≡ Err fault → stream_at g r raw ≡ Err fault
-unfolding stream_at slot_of entry_in live_block gather
-stream-refused g r None fault is = let same : cat.NotFound (missing.Record r) ≡ fault = cc in ap Err same
-stream-refused g r (Some raw) fault is = refused-by g r raw (is_in_use raw) (unfixed File raw) fault is
+pub ruleset own_steps = (own-other, own-extension, own-base)
 
-pub stream-block : (g : Geometry) (r : ℕ) (raw : Option (List ℕ)) (block : List ℕ) → block_of r raw ≡ Ok block → stream_at g r raw ≡ block_stream g r block
-unfolding stream_at slot_of entry_in live_block
-stream-block g r None block is = absurd cc
-stream-block g r (Some raw) block is = block-by g r raw block (is_in_use raw) (unfixed File raw) is
+-- ---- the record's bytes
 
-pub block-bad : (g : Geometry) (r : ℕ) (block : List ℕ) (fault : RecordFault) → Err fault ≡ parsed block → block_stream g r block ≡ Err (cat.Damaged rule.C4 r)
-unfolding block_stream
-block-bad g r block fault is = ap (parsed_stream g r) (sym is)
+pub outcome-stream : (g : Geometry) (content : List ℕ) (r : ℕ) (raw : Option (List ℕ)) (fault : CatFault) → stream_at g r raw ≡ Err fault → record_outcome g content r raw ≡ Err fault
+outcome-stream g content r raw fault is = rw is refl
 
-pub block-good : (g : Geometry) (r : ℕ) (block : List ℕ) (entry : Entry (List ℕ)) → Ok entry ≡ parsed block → block_stream g r block ≡ entry_stream g r entry
-unfolding block_stream
-block-good g r block entry is = ap (parsed_stream g r) (sym is)
+pub outcome-raw : (g : Geometry) (content : List ℕ) (r : ℕ) (raw : Option (List ℕ)) (fault : CatFault) → ok_or raw (cat.NotFound (missing.Record r)) ≡ Err fault → record_outcome g content r raw ≡ Err fault
+unfolding stream_at slot_of gather
+outcome-raw g content r None fault is = let same : cat.NotFound (missing.Record r) ≡ fault = cc in ap Err same
+outcome-raw g content r (Some raw) fault is = absurd cc
 
 -- ---- the image
 
-pub outcome-geometry : (content : List ℕ) (r : ℕ) (fault : CatFault) → (cause : ImageFault) × (volume_geometry content ≡ Err cause) × (fault ≡ geometry_fault cause) → cat_outcome content r ≡ Err fault
+pub outcome-geometry : (content : List ℕ) (r : ℕ) (fault : CatFault) → refused_as geometry_fault (volume_geometry content) ≡ Err fault → cat_outcome content r ≡ Err fault
 unfolding cat_outcome
-outcome-geometry content r fault is = ap (volume_outcome content r) is.1 ∙ ap Err (sym is.2)
+outcome-geometry content r fault is = rw is refl
 
-no-map : (g : Geometry) (content : List ℕ) (r : ℕ) (map : Option Map) (fault : CatFault) → or_no_map map ≡ Err fault → map_outcome g content r map ≡ Err fault
-no-map g content r None fault is = let same : cat.Damaged rule.C3 0 ≡ fault = cc in ap Err same
-no-map g content r (Some map) fault is = absurd cc
-
-a-map : (g : Geometry) (content : List ℕ) (r : ℕ) (found : Option Map) (map : Map) → or_no_map found ≡ Ok map → map_outcome g content r found ≡ shown g content (stream_at g r (record_bytes g map content r))
-a-map g content r None map is = absurd cc
-a-map g content r (Some found) map is = let same : found ≡ map = cc in ap (λ m. shown g content (stream_at g r (record_bytes g m content r))) same
-
-pub outcome-no_map : (g : Geometry) (content : List ℕ) (r : ℕ) (fault : CatFault) → volume_geometry content ≡ Ok g → or_no_map (mft_map g content) ≡ Err fault → cat_outcome content r ≡ Err fault
+pub outcome-no_map : (g : Geometry) (content : List ℕ) (r : ℕ) (fault : CatFault) → volume_geometry content ≡ Ok g → mft_map g content ≡ Err fault → cat_outcome content r ≡ Err fault
 unfolding cat_outcome
-outcome-no_map g content r fault opened is = ap (volume_outcome content r) opened ∙ no-map g content r (mft_map g content) fault is
+outcome-no_map g content r fault opened is = rw (opened, is) refl
 
-pub outcome-map : (g : Geometry) (content : List ℕ) (r : ℕ) (map : Map) → volume_geometry content ≡ Ok g → or_no_map (mft_map g content) ≡ Ok map
-    → cat_outcome content r ≡ shown g content (stream_at g r (record_bytes g map content r))
+pub outcome-map : (g : Geometry) (content : List ℕ) (r : ℕ) (map : Map) → volume_geometry content ≡ Ok g → mft_map g content ≡ Ok map
+    → cat_outcome content r ≡ record_outcome g content r (raw_record g map content r)
 unfolding cat_outcome
-outcome-map g content r map opened is = ap (volume_outcome content r) opened ∙ a-map g content r (mft_map g content) map is
+outcome-map g content r map opened is = rw (opened, is) refl

@@ -1,50 +1,47 @@
 -- Extents, one after the other.
-use Rattle.std.proofs.Common.{◌≡◌, ◌≤◌, ◌-◌, ◌&&◌, ◌==◌, ℕ, List, [], ◌∷◌, ◌++◌, length, map, refl, sym, ap, ◌∙◌, subst, arith, length-append, append_assoc, eq-eqb, Bool, true, false, Option, Some, None, Ok, Err, if◌then◌else◌}
+use Rattle.std.proofs.Common.{◌≡◌, ◌≤◌, ◌-◌, ◌&&◌, ◌==◌, ℕ, List, [], ◌∷◌, ◌++◌, length, map, refl, sym, ap, ◌∙◌, subst, arith, length-append, append_assoc, eq-eqb, Bool, true, false, Option, Some, None, Ok, Err, if◌then◌else◌, inl, inr}
 use Rattle.std.specs.Prelude.{not, find, is_some, option_map, ◌||◌}
-use Rattle.std.proofs.Common.{inl, inr}
 use Rattle.std.proofs.Math.Bool.{and-true}
-use Rattle.std.proofs.lemmas.Bool.{eqb-true}
+use Rattle.std.proofs.lemmas.Bool.{eqb-true, false≢true}
 use Rattle.std.proofs.lemmas.List.{append-nil}
-use Rattle.std.proofs.lemmas.Bool.{false≢true}
-use Rattle.ntfs_record.specs.Entry.{Part, map_parts}
-use Rattle.ntfs_record.specs.Views.{Shown, ShownBody, shown_part}
-use Rattle.ntfs_runs.specs.declared.run.Run.{Run}
-use Rattle.ntfs_runs.specs.Clusters.{vcns}
-use Rattle.ntfs_show.specs.Cells.{Cells, are_cells, cells_below}
+use Rattle.ntfs_base.specs.Frames.{IsSettled}
 use Rattle.ntfs_base.specs.declared.refusal.Missing.TheVariants as missing
 use Rattle.ntfs_base.specs.declared.refusal.Rule.TheVariants as rule
-use Rattle.ntfs_show.specs.Cat.{IsSettledFault}
-use Rattle.ntfs_show.specs.declared.cat_fault.CatFault.TheVariants as cat
-use Rattle.ntfs_show.specs.declared.sought.Sought.TheVariants as sought
-use Rattle.ntfs_show.specs.Gather.{have_room, joined, runs_stream, value_stream, stream_in, stream_of, Extent, extents_of, has_list, is_data, is_list, is_right, are_right, join_from, cells_in}
-use Rattle.ntfs_show.specs.Reading.{Adds, IsPairsFault, Joins, JoinsFrom, ReadsRuns, body_extent, is_sought, shown_extent, shown_extents}
+use Rattle.ntfs_record.specs.Entry.{Part, map_parts}
+use Rattle.ntfs_record.specs.Views.{Shown, shown_part}
+use Rattle.ntfs_runs.specs.declared.run.Run.{Run}
+use Rattle.ntfs_runs.specs.Clusters.{vcns}
+use Rattle.ntfs_show.specs.Cat.{cat_origin}
+use Rattle.ntfs_show.specs.Cells.{Cells, are_cells, cells_below}
+use Rattle.ntfs_show.specs.Gather.{AreRuns, Extent, IsPairsFault, JoinsFrom, TakesExtent, are_right, cells_in, extents_of, has_list, have_room, is_data, is_list, is_right, is_wanted, join_from, runs_stream, shown_extent, shown_extents, stream_in, stream_of, stream_of_runs, value_stream}
 use Rattle.ntfs_show.specs.declared.cat_fault.CatFault.{CatFault}
+use Rattle.ntfs_show.specs.declared.cat_fault.CatFault.TheVariants as cat
 use Rattle.ntfs_show.specs.declared.extents.Extents.{Extents}
+use Rattle.ntfs_show.specs.declared.wanted.Wanted.TheVariants as wanted
 use Rattle.ntfs_show.proofs.CellsLemmas.{are_cells-append}
 
 and-is : (a b : Bool) → a ≡ true → b ≡ true → (a && b) ≡ true
 and-is a b first second = rw (first, second) refl
 
 -- runs that were read, joined
-pub adds-runs : (n : ℕ) (body : ShownBody) (old new : Extents) (runs : List Run) → body.is_resident ≡ false → ReadsRuns n (body.next - body.lowest) body.pairs (Ok runs)
-    → new.joins ≡ (old.joins && (body.lowest == old.next)) → new.next ≡ body.next → vcns new.runs ≡ vcns old.runs ++ vcns runs
-    → Adds n old (body_extent n body) new
-adds-runs n body old new runs resident reads joins next is = record {
-  right = rw resident (and-is (cells_below n body.pairs).is_right (length (cells_below n body.pairs).cells == body.next - body.lowest) reads.0 (eq-eqb (length (cells_below n body.pairs).cells) (body.next - body.lowest) (ap length reads.1 ∙ reads.2)));
-  joins = rw resident joins;
-  next = λ joined. next;
-  cells = λ joined. is ∙ ap (λ cells. vcns old.runs ++ cells) (sym reads.1);
+pub takes-runs : (n lowest next : ℕ) (pairs : List ℕ) (e : Extent (Cells ℕ)) (old new : Extents) (runs : List Run) → e.is_resident ≡ false → e.lowest ≡ lowest → e.next ≡ next → e.payload ≡ cells_below n pairs
+    → AreRuns n (next - lowest) pairs (Some runs) → new.joins ≡ (old.joins && (lowest == old.next)) → new.next ≡ next → vcns new.runs ≡ vcns old.runs ++ vcns runs → TakesExtent n old e new
+takes-runs n lowest next pairs e old new runs resident low high cells reads joins next_is is = record {
+  right = rw (resident, cells, low, high) (and-is (cells_below n pairs).is_right (length (cells_below n pairs).cells == next - lowest) reads.0 (eq-eqb (length (cells_below n pairs).cells) (next - lowest) (ap length reads.1 ∙ reads.2)));
+  joins = rw (resident, low) joins;
+  next = λ joined. next_is ∙ sym high;
+  cells = λ joined. is ∙ ap (λ xs. vcns old.runs ++ xs) (sym (ap (λ (p : Cells ℕ). p.cells) cells ∙ reads.1));
   below = λ before. ap (are_cells true n) is ∙ are_cells-append true n (vcns old.runs) (vcns runs) ∙ and-is (are_cells true n (vcns old.runs)) (are_cells true n (vcns runs)) before reads.3;
 }
 
 -- the first attribute is unnamed data, or it isn't
-pub extents-data : (n : ℕ) (xs rest : List Shown) (s : Shown) → xs ≡ s ∷ rest → is_data s.kind s.name ≡ true → shown_extents n xs ≡ shown_extent n s ∷ shown_extents n rest
+pub extents-data : (n : ℕ) (xs rest : List Shown) (s : Shown) → xs ≡ s ∷ rest → is_data s.kind s.name ≡ true → shown_extents (cells_below n) xs ≡ shown_extent (cells_below n) s ∷ shown_extents (cells_below n) rest
 unfolding shown_extents
-extents-data n xs rest s is test = ap (shown_extents n) is ∙ rw test refl
+extents-data n xs rest s is test = ap (shown_extents (cells_below n)) is ∙ rw test refl
 
-pub extents-other : (n : ℕ) (xs rest : List Shown) (s : Shown) → xs ≡ s ∷ rest → is_data s.kind s.name ≡ false → shown_extents n xs ≡ shown_extents n rest
+pub extents-other : (n : ℕ) (xs rest : List Shown) (s : Shown) → xs ≡ s ∷ rest → is_data s.kind s.name ≡ false → shown_extents (cells_below n) xs ≡ shown_extents (cells_below n) rest
 unfolding shown_extents
-extents-other n xs rest s is test = ap (shown_extents n) is ∙ rw test refl
+extents-other n xs rest s is test = ap (shown_extents (cells_below n)) is ∙ rw test refl
 
 -- nothing is gathered yet
 pub joins-start : (n : ℕ) (es : List (Extent (Cells ℕ))) (start : Extents) → start.runs ≡ [] → start.next ≡ 0 → start.joins ≡ true → JoinsFrom n es start es
@@ -83,53 +80,42 @@ and-skip : (a b : Bool) → a ≡ true → (a && b) ≡ b
 and-skip a b is = rw is refl
 
 -- one extent more
-pub joins-more : (n : ℕ) (es rest : List (Extent (Cells ℕ))) (s : Shown) (old new : Extents) → s.body.lowest ≤ s.body.next → JoinsFrom n es old (shown_extent n s ∷ rest) → Adds n old (body_extent n s.body) new
+pub joins-more : (n : ℕ) (es rest : List (Extent (Cells ℕ))) (s : Shown) (old new : Extents) → s.body.lowest ≤ s.body.next → JoinsFrom n es old (shown_extent (cells_below n) s ∷ rest) → TakesExtent n old (shown_extent (cells_below n) s) new
     → JoinsFrom n es new rest
 unfolding are_right join_from cells_in
-joins-more n es rest s old new within from adds =
-    let old_joins : new.joins ≡ true → old.joins ≡ true = λ joined. and-left old.joins (not s.body.is_resident && (s.body.lowest == old.next)) new.joins adds.joins joined in
-    let both : new.joins ≡ true → (not s.body.is_resident && (s.body.lowest == old.next)) ≡ true = λ joined. and-right old.joins (not s.body.is_resident && (s.body.lowest == old.next)) new.joins adds.joins joined in
+joins-more n es rest s old new within from takes =
+    let old_joins : new.joins ≡ true → old.joins ≡ true = λ joined. and-left old.joins (not s.body.is_resident && (s.body.lowest == old.next)) new.joins takes.joins joined in
+    let both : new.joins ≡ true → (not s.body.is_resident && (s.body.lowest == old.next)) ≡ true = λ joined. and-right old.joins (not s.body.is_resident && (s.body.lowest == old.next)) new.joins takes.joins joined in
     let follows : new.joins ≡ true → s.body.lowest ≡ old.next = λ joined. eqb-true s.body.lowest old.next (and-right (not s.body.is_resident) (s.body.lowest == old.next) true (sym (both joined)) refl) in
     let runs : new.joins ≡ true → s.body.is_resident ≡ false = λ joined. not-true s.body.is_resident (and-left (not s.body.is_resident) (s.body.lowest == old.next) true (sym (both joined)) refl) in
     let count : new.joins ≡ true → length (cells_below n s.body.pairs).cells ≡ s.body.next - s.body.lowest = λ joined.
     eqb-true (length (cells_below n s.body.pairs).cells) (s.body.next - s.body.lowest)
     (and-right (cells_below n s.body.pairs).is_right (length (cells_below n s.body.pairs).cells == s.body.next - s.body.lowest) true
-    (sym (or-of s.body.is_resident ((cells_below n s.body.pairs).is_right && (length (cells_below n s.body.pairs).cells == s.body.next - s.body.lowest)) adds.right (runs joined))) refl) in
+    (sym (or-of s.body.is_resident ((cells_below n s.body.pairs).is_right && (length (cells_below n s.body.pairs).cells == s.body.next - s.body.lowest)) takes.right (runs joined))) refl) in
     record {
-      right = from.right ∙ and-skip (is_right (shown_extent n s)) (are_right rest) adds.right;
-      joins = from.joins ∙ join-step old.joins (not s.body.is_resident) (s.body.lowest == old.next) (join_from s.body.next rest) (join_from new.next rest) new.joins adds.joins (λ joined. ap (λ k. join_from k rest) (sym (adds.next joined)));
-      cells = λ joined. from.cells (old_joins joined) ∙ sym (append_assoc (vcns old.runs) (cells_below n s.body.pairs).cells (cells_in rest)) ∙ ap (λ cells. cells ++ cells_in rest) (sym (adds.cells joined));
+      right = from.right ∙ and-skip (is_right (shown_extent (cells_below n) s)) (are_right rest) takes.right;
+      joins = from.joins ∙ join-step old.joins (not s.body.is_resident) (s.body.lowest == old.next) (join_from s.body.next rest) (join_from new.next rest) new.joins takes.joins (λ joined. ap (λ k. join_from k rest) (sym (takes.next joined)));
+      cells = λ joined. from.cells (old_joins joined) ∙ sym (append_assoc (vcns old.runs) (cells_below n s.body.pairs).cells (cells_in rest)) ∙ ap (λ cells. cells ++ cells_in rest) (sym (takes.cells joined));
       next = λ joined.
-          let a = ap length (adds.cells joined) in
+          let a = ap length (takes.cells joined) in
           let b = from.next (old_joins joined) in
           let e = count joined in
           let f = follows joined in
-          let g = adds.next joined in
+          let g = takes.next joined in
           omega (arith, a, b, e, f, g, within, length-append (vcns old.runs) (cells_below n s.body.pairs).cells);
-      below = adds.below from.below;
+      below = takes.below from.below;
     }
 
--- no extent is left
-pub joins-all : (n : ℕ) (es : List (Extent (Cells ℕ))) (all : Extents) → JoinsFrom n es all [] → Joins n es all
-unfolding are_right join_from cells_in
-joins-all n es all from = record {
-  right = from.right;
-  joins = sym (from.joins ∙ and-true all.joins);
-  cells = λ joined. sym (from.cells joined ∙ append-nil (vcns all.runs));
-  next = from.next;
-  below = from.below;
-}
-
 -- one that isn't right
-pub refuses-all : (n r : ℕ) (es rest : List (Extent (Cells ℕ))) (s : Shown) (old : Extents) (fault : CatFault) → JoinsFrom n es old (shown_extent n s ∷ rest)
-    → IsPairsFault r (is_right (body_extent n s.body)) fault → IsPairsFault r (are_right es) fault
+pub refuses-all : (n r : ℕ) (es rest : List (Extent (Cells ℕ))) (s : Shown) (old : Extents) (fault : CatFault) → JoinsFrom n es old (shown_extent (cells_below n) s ∷ rest)
+    → IsPairsFault r (is_right (shown_extent (cells_below n) s)) fault → IsPairsFault r (are_right es) fault
 unfolding are_right
 refuses-all n r es rest s old fault from (inl memory) = inl memory
 refuses-all n r es rest s old fault from (inr wrong) = inr (from.right ∙ ap (λ b. b && are_right rest) wrong.0, wrong.1)
 
-pub extents-none : (n : ℕ) (xs : List Shown) → xs ≡ [] → shown_extents n xs ≡ []
+pub extents-none : (n : ℕ) (xs : List Shown) → xs ≡ [] → shown_extents (cells_below n) xs ≡ []
 unfolding shown_extents
-extents-none n xs is = ap (shown_extents n) is
+extents-none n xs is = ap (shown_extents (cells_below n)) is
 
 -- ---- what a record's attributes give, as their views show them
 
@@ -137,120 +123,113 @@ list-step : {X : Type 0} (x : X) (test rest : Bool) (others : Option X) → is_s
 list-step x true rest others is = refl
 list-step x false rest others is = is
 
-pub list-found : {P : Type 0} (f : List ℕ → P) (parts : List (Part (List ℕ))) → is_some (find (is_sought sought.List) (map shown_part parts)) ≡ has_list (map_parts f parts)
+pub list-found : (parts : List (Part (List ℕ))) → is_some (find (is_wanted wanted.List) (map shown_part parts)) ≡ has_list parts
 unfolding has_list
-list-found f [] = refl
-list-found f (part ∷ parts) = list-step (shown_part part) (is_list part.head.kind) (has_list (map_parts f parts)) (find (is_sought sought.List) (map shown_part parts)) (list-found f parts)
+list-found [] = refl
+list-found (part ∷ parts) = list-step (shown_part part) (is_list part.head.kind) (has_list parts) (find (is_wanted wanted.List) (map shown_part parts)) (list-found parts)
 
-pub list-plain : (parts : List (Part (List ℕ))) → is_some (find (is_sought sought.List) (map shown_part parts)) ≡ has_list parts
+list-mapped : {P : Type 0} (f : List ℕ → P) (parts : List (Part (List ℕ))) → has_list (map_parts f parts) ≡ has_list parts
 unfolding has_list
-list-plain [] = refl
-list-plain (part ∷ parts) = list-step (shown_part part) (is_list part.head.kind) (has_list parts) (find (is_sought sought.List) (map shown_part parts)) (list-plain parts)
+list-mapped f [] = refl
+list-mapped f (part ∷ parts) = ap (λ b. is_list part.head.kind || b) (list-mapped f parts)
 
 extents-step : {X : Type 0} (test : Bool) (x : X) (a b : List X) → a ≡ b → (if test then x ∷ a else a) ≡ (if test then x ∷ b else b)
 extents-step true x a b is = ap (λ xs. x ∷ xs) is
 extents-step false x a b is = is
 
-pub extents-shown : (n : ℕ) (parts : List (Part (List ℕ))) → extents_of (map_parts (cells_below n) parts) ≡ shown_extents n (map shown_part parts)
+pub extents-shown : (n : ℕ) (parts : List (Part (List ℕ))) → extents_of (map_parts (cells_below n) parts) ≡ shown_extents (cells_below n) (map shown_part parts)
 unfolding extents_of shown_extents
 extents-shown n [] = refl
-extents-shown n (part ∷ parts) = extents-step (is_data part.head.kind part.head.name) (shown_extent n (shown_part part)) (extents_of (map_parts (cells_below n) parts)) (shown_extents n (map shown_part parts)) (extents-shown n parts)
+extents-shown n (part ∷ parts) = extents-step (is_data part.head.kind part.head.name) (shown_extent (cells_below n) (shown_part part)) (extents_of (map_parts (cells_below n) parts)) (shown_extents (cells_below n) (map shown_part parts)) (extents-shown n parts)
 
-first-step : (n : ℕ) (test : Bool) (x : Shown) (found : Option Shown) (rest : List (Extent (Cells ℕ))) (s : Shown) → ((found ≡ Some s) → (es : List (Extent (Cells ℕ))) × (rest ≡ shown_extent n s ∷ es)) → (if test then Some x else found) ≡ Some s
-    → (es : List (Extent (Cells ℕ))) × ((if test then shown_extent n x ∷ rest else rest) ≡ shown_extent n s ∷ es)
-first-step n true x found rest s more is = let same : x ≡ s = cc in (rest, ap (λ y. shown_extent n y ∷ rest) same)
+first-step : (n : ℕ) (test : Bool) (x : Shown) (found : Option Shown) (rest : List (Extent (Cells ℕ))) (s : Shown) → ((found ≡ Some s) → (es : List (Extent (Cells ℕ))) × (rest ≡ shown_extent (cells_below n) s ∷ es)) → (if test then Some x else found) ≡ Some s
+    → (es : List (Extent (Cells ℕ))) × ((if test then shown_extent (cells_below n) x ∷ rest else rest) ≡ shown_extent (cells_below n) s ∷ es)
+first-step n true x found rest s more is = let same : x ≡ s = cc in (rest, ap (λ y. shown_extent (cells_below n) y ∷ rest) same)
 first-step n false x found rest s more is = more is
 
 -- the first extent is the first attribute that is unnamed data
-pub first-extent : (n : ℕ) (ss : List Shown) (s : Shown) → find (is_sought sought.Data) ss ≡ Some s → (es : List (Extent (Cells ℕ))) × (shown_extents n ss ≡ shown_extent n s ∷ es)
+pub first-extent : (n : ℕ) (ss : List Shown) (s : Shown) → find (is_wanted wanted.Data) ss ≡ Some s → (es : List (Extent (Cells ℕ))) × (shown_extents (cells_below n) ss ≡ shown_extent (cells_below n) s ∷ es)
 unfolding shown_extents
 first-extent n [] s is = absurd cc
-first-extent n (x ∷ xs) s is = first-step n (is_data x.kind x.name) x (find (is_sought sought.Data) xs) (shown_extents n xs) s (first-extent n xs s) is
+first-extent n (x ∷ xs) s is = first-step n (is_data x.kind x.name) x (find (is_wanted wanted.Data) xs) (shown_extents (cells_below n) xs) s (first-extent n xs s) is
 
-none-step : (n : ℕ) (test : Bool) (x : Shown) (found : Option Shown) (rest : List (Extent (Cells ℕ))) → (found ≡ None → rest ≡ []) → (if test then Some x else found) ≡ None → (if test then shown_extent n x ∷ rest else rest) ≡ []
+none-step : (n : ℕ) (test : Bool) (x : Shown) (found : Option Shown) (rest : List (Extent (Cells ℕ))) → (found ≡ None → rest ≡ []) → (if test then Some x else found) ≡ None → (if test then shown_extent (cells_below n) x ∷ rest else rest) ≡ []
 none-step n true x found rest more is = absurd cc
 none-step n false x found rest more is = more is
 
-pub no-extent : (n : ℕ) (ss : List Shown) → find (is_sought sought.Data) ss ≡ None → shown_extents n ss ≡ []
+pub no-extent : (n : ℕ) (ss : List Shown) → find (is_wanted wanted.Data) ss ≡ None → shown_extents (cells_below n) ss ≡ []
 unfolding shown_extents
 no-extent n [] is = refl
-no-extent n (x ∷ xs) is = none-step n (is_data x.kind x.name) x (find (is_sought sought.Data) xs) (shown_extents n xs) (no-extent n xs) is
+no-extent n (x ∷ xs) is = none-step n (is_data x.kind x.name) x (find (is_wanted wanted.Data) xs) (shown_extents (cells_below n) xs) (no-extent n xs) is
 
 -- a record with a list, without data, with a value, with runs
-pub stream-list : (c n r : ℕ) (parts : List (Part (List ℕ))) → is_some (find (is_sought sought.List) (map shown_part parts)) ≡ true → stream_in c r (map_parts (cells_below n) parts) ≡ Err (cat.Damaged rule.C11 r)
+pub stream-list : (c n r : ℕ) (parts : List (Part (List ℕ))) → is_some (find (is_wanted wanted.List) (map shown_part parts)) ≡ true → stream_in c r (map_parts (cells_below n) parts) ≡ Err (cat.Damaged rule.C11 r)
 unfolding stream_in
-stream-list c n r parts is = rw (sym (list-found (cells_below n) parts) ∙ is) refl
+stream-list c n r parts is = rw (list-mapped (cells_below n) parts ∙ sym (list-found parts) ∙ is) refl
 
-plain-stream : (c n r : ℕ) (parts : List (Part (List ℕ))) → is_some (find (is_sought sought.List) (map shown_part parts)) ≡ false
-    → stream_in c r (map_parts (cells_below n) parts) ≡ stream_of c r (shown_extents n (map shown_part parts))
+plain-stream : (c n r : ℕ) (parts : List (Part (List ℕ))) → is_some (find (is_wanted wanted.List) (map shown_part parts)) ≡ false
+    → stream_in c r (map_parts (cells_below n) parts) ≡ stream_of c r (shown_extents (cells_below n) (map shown_part parts))
 unfolding stream_in
-plain-stream c n r parts is = rw (sym (list-found (cells_below n) parts) ∙ is, extents-shown n parts) refl
+plain-stream c n r parts is = rw (list-mapped (cells_below n) parts ∙ sym (list-found parts) ∙ is, extents-shown n parts) refl
 
-pub stream-none : (c n r : ℕ) (parts : List (Part (List ℕ))) → is_some (find (is_sought sought.List) (map shown_part parts)) ≡ false → find (is_sought sought.Data) (map shown_part parts) ≡ None
+pub stream-none : (c n r : ℕ) (parts : List (Part (List ℕ))) → is_some (find (is_wanted wanted.List) (map shown_part parts)) ≡ false → find (is_wanted wanted.Data) (map shown_part parts) ≡ None
     → stream_in c r (map_parts (cells_below n) parts) ≡ Err (cat.NotFound missing.Stream)
 unfolding stream_of
 stream-none c n r parts is none = plain-stream c n r parts is ∙ ap (stream_of c r) (no-extent n (map shown_part parts) none)
 
-value-of : (c n r : ℕ) (s : Shown) (es : List (Extent (Cells ℕ))) → s.body.is_resident ≡ true → stream_of c r (shown_extent n s ∷ es) ≡ Ok (value_stream s.flags s.body.value)
+first-of : (c n r : ℕ) (s : Shown) (es : List (Extent (Cells ℕ))) (resident : Bool) → s.body.is_resident ≡ resident
+    → stream_of c r (shown_extent (cells_below n) s ∷ es) ≡ (if resident then Ok (value_stream s.flags s.body.value) else stream_of_runs c r s.flags s.body.size s.body.valid (shown_extent (cells_below n) s ∷ es))
 unfolding stream_of
-value-of c n r s es is = rw is refl
+first-of c n r s es resident is = rw is refl
 
-runs-of : (c n r : ℕ) (s : Shown) (es : List (Extent (Cells ℕ))) → s.body.is_resident ≡ false → stream_of c r (shown_extent n s ∷ es) ≡ joined c r (shown_extent n s) (shown_extent n s ∷ es)
-unfolding stream_of
-runs-of c n r s es is = rw is refl
-
-pub stream-value : (c n r : ℕ) (parts : List (Part (List ℕ))) (s : Shown) → is_some (find (is_sought sought.List) (map shown_part parts)) ≡ false → find (is_sought sought.Data) (map shown_part parts) ≡ Some s
+pub stream-value : (c n r : ℕ) (parts : List (Part (List ℕ))) (s : Shown) → is_some (find (is_wanted wanted.List) (map shown_part parts)) ≡ false → find (is_wanted wanted.Data) (map shown_part parts) ≡ Some s
     → s.body.is_resident ≡ true → stream_in c r (map_parts (cells_below n) parts) ≡ Ok (value_stream s.flags s.body.value)
 stream-value c n r parts s is found resident =
     let first = first-extent n (map shown_part parts) s found in
-    plain-stream c n r parts is ∙ ap (stream_of c r) first.1 ∙ value-of c n r s first.0 resident
+    plain-stream c n r parts is ∙ ap (stream_of c r) first.1 ∙ first-of c n r s first.0 true resident
 
-pub stream-runs : (c n r : ℕ) (parts : List (Part (List ℕ))) (s : Shown) → is_some (find (is_sought sought.List) (map shown_part parts)) ≡ false → find (is_sought sought.Data) (map shown_part parts) ≡ Some s
-    → s.body.is_resident ≡ false → stream_in c r (map_parts (cells_below n) parts) ≡ joined c r (shown_extent n s) (shown_extents n (map shown_part parts))
+pub stream-runs : (c n r : ℕ) (parts : List (Part (List ℕ))) (s : Shown) → is_some (find (is_wanted wanted.List) (map shown_part parts)) ≡ false → find (is_wanted wanted.Data) (map shown_part parts) ≡ Some s
+    → s.body.is_resident ≡ false → stream_in c r (map_parts (cells_below n) parts) ≡ stream_of_runs c r s.flags s.body.size s.body.valid (shown_extents (cells_below n) (map shown_part parts))
 stream-runs c n r parts s is found runs =
     let first = first-extent n (map shown_part parts) s found in
-    plain-stream c n r parts is ∙ ap (stream_of c r) first.1 ∙ runs-of c n r s first.0 runs ∙ ap (joined c r (shown_extent n s)) (sym first.1)
+    plain-stream c n r parts is ∙ ap (stream_of c r) first.1 ∙ first-of c n r s first.0 false runs ∙ ap (stream_of_runs c r s.flags s.body.size s.body.valid) (sym first.1)
 
--- extents that are right join and have room, or not
-joined-test : (c : ℕ) (n : ℕ) (es : List (Extent (Cells ℕ))) (all : Extents) (size valid : ℕ) → Joins n es all
+-- ---- all extents are gathered
+
+pub runs-refused : (c n r flags size valid : ℕ) (es : List (Extent (Cells ℕ))) (fault : CatFault) → IsPairsFault r (are_right es) fault → IsSettled (cat_origin fault) → stream_of_runs c r flags size valid es ≡ Err fault
+unfolding stream_of_runs
+runs-refused c n r flags size valid es fault (inl memory) settled = let never = subst (λ (e : CatFault). IsSettled (cat_origin e)) memory settled in absurd never
+runs-refused c n r flags size valid es fault (inr wrong) settled = rw (wrong.0, wrong.1) refl
+
+-- they join and have room, or not
+joins-test : (c n : ℕ) (es : List (Extent (Cells ℕ))) (all : Extents) (size valid : ℕ) → JoinsFrom n es all []
     → (join_from 0 es && have_room c (length (cells_in es)) size valid) ≡ (all.joins && have_room c all.next size valid)
-joined-test c n es all size valid are =
-    test-step (join_from 0 es) all.joins (have_room c (length (cells_in es)) size valid) (have_room c all.next size valid) are.joins
-    (λ joined. ap (λ k. have_room c k size valid) (ap length (sym (are.cells joined)) ∙ are.next joined))
+unfolding join_from cells_in
+joins-test c n es all size valid from =
+    test-step (join_from 0 es) all.joins (have_room c (length (cells_in es)) size valid) (have_room c all.next size valid) (sym (from.joins ∙ and-true all.joins))
+    (λ joined. ap (λ k. have_room c k size valid) (ap length (from.cells joined ∙ append-nil (vcns all.runs)) ∙ from.next joined))
   where
     test-step : (a b x y : Bool) → b ≡ a → (b ≡ true → x ≡ y) → (a && x) ≡ (b && y)
     test-step true b x y is same = same is ∙ ap (λ v. v && y) (sym is)
     test-step false b x y is same = ap (λ v. v && y) (sym is)
 
-pub joined-cut : (c n r : ℕ) (first : Extent (Cells ℕ)) (es : List (Extent (Cells ℕ))) → are_right es ≡ false → joined c r first es ≡ Err (cat.Damaged rule.C7 r)
-unfolding joined
-joined-cut c n r first es is = rw is refl
+-- their cells are the runs
+pub runs-gathered : (c n r flags size valid : ℕ) (es : List (Extent (Cells ℕ))) (all : Extents) (fits : Bool) → JoinsFrom n es all [] → (all.joins && have_room c all.next size valid) ≡ fits
+    → stream_of_runs c r flags size valid es ≡ (if fits then Ok (runs_stream flags size valid (vcns all.runs)) else Err (cat.Damaged rule.C12 r))
+unfolding stream_of_runs are_right cells_in
+runs-gathered c n r flags size valid es all true from test =
+    let joins = and-left all.joins (have_room c all.next size valid) true (sym test) refl in
+    rw (from.right, joins-test c n es all size valid from ∙ test) (ap (λ cells. Ok (runs_stream flags size valid cells)) (from.cells joins ∙ append-nil (vcns all.runs)))
+runs-gathered c n r flags size valid es all false from test = rw (from.right, joins-test c n es all size valid from ∙ test) refl
 
-pub joined-apart : (c n r size valid : ℕ) (first : Extent (Cells ℕ)) (es : List (Extent (Cells ℕ))) (all : Extents) → first.size ≡ size → first.valid ≡ valid → Joins n es all → (all.joins && have_room c all.next size valid) ≡ false
-    → joined c r first es ≡ Err (cat.Damaged rule.C12 r)
-unfolding joined
-joined-apart c n r size valid first es all size_is valid_is are apart =
-    let test = joined-test c n es all size valid are ∙ apart in
-    rw (size_is, valid_is, are.right, test) refl
-
-pub joined-whole : (c n r flags size valid : ℕ) (first : Extent (Cells ℕ)) (es : List (Extent (Cells ℕ))) (all : Extents) → first.flags ≡ flags → first.size ≡ size → first.valid ≡ valid → Joins n es all
-    → (all.joins && have_room c all.next size valid) ≡ true → joined c r first es ≡ Ok (runs_stream flags size valid (vcns all.runs))
-unfolding joined
-joined-whole c n r flags size valid first es all flags_is size_is valid_is are whole =
-    let test = joined-test c n es all size valid are ∙ whole in
-    let joins = and-left all.joins (have_room c all.next size valid) true (sym whole) refl in
-    rw (flags_is, size_is, valid_is, are.right, test) (ap (λ cells. Ok (runs_stream flags size valid cells)) (sym (are.cells joins)))
-
-pub readable-whole : (c n size valid : ℕ) (es : List (Extent (Cells ℕ))) (all : Extents) → Joins n es all → (all.joins && have_room c all.next size valid) ≡ true
+pub readable-runs : (c n size valid : ℕ) (es : List (Extent (Cells ℕ))) (all : Extents) → JoinsFrom n es all [] → (all.joins && have_room c all.next size valid) ≡ true
     → (are_cells true n (vcns all.runs) ≡ true) × (have_room c (length (vcns all.runs)) size valid ≡ true)
-readable-whole c n size valid es all are whole =
+readable-runs c n size valid es all from whole =
     let joins = and-left all.joins (have_room c all.next size valid) true (sym whole) refl in
-    (are.below, ap (λ k. have_room c k size valid) (are.next joins) ∙ and-right all.joins (have_room c all.next size valid) true (sym whole) refl)
-
-pub joined-refused : (c n r : ℕ) (first : Extent (Cells ℕ)) (es : List (Extent (Cells ℕ))) (fault : CatFault) → IsPairsFault r (are_right es) fault → IsSettledFault fault → joined c r first es ≡ Err fault
-joined-refused c n r first es fault (inl memory) settled = let never : IsSettledFault cat.NoMemory = subst IsSettledFault memory settled in absurd never
-joined-refused c n r first es fault (inr wrong) settled = joined-cut c n r first es wrong.0 ∙ ap Err (sym wrong.1)
+    (from.below, ap (λ k. have_room c k size valid) (from.next joins) ∙ and-right all.joins (have_room c all.next size valid) true (sym whole) refl)
 
 pub is_some-shown : {X Y : Type 0} (f : X → Y) (o : Option X) → is_some (option_map f o) ≡ is_some o
 is_some-shown f None = refl
 is_some-shown f (Some x) = refl
+
+pub ruleset stream_steps = (stream-list, stream-none, is_some-shown)

@@ -1,3 +1,4 @@
+pub mod AnswerLemmas
 pub mod CellsLemmas
 pub mod ListsLemmas
 pub mod ExtentsLemmas

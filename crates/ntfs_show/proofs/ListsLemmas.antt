@@ -2,21 +2,12 @@
 use Rattle.std.proofs.Common.{◌≡◌, suc, List, [], ◌∷◌, refl, sym, ap, ◌∙◌, subst, arith, Bool, true, false, Option, Some, None}
 use Rattle.std.specs.Prelude.{find, All}
 
-find-first : {X : Type 0} (p : X → Bool) (x : X) (rest : List X) → p x ≡ true → find p (x ∷ rest) ≡ Some x
-find-first p x rest is = rw is refl
-
 find-rest : {X : Type 0} (p : X → Bool) (x : X) (rest : List X) → p x ≡ false → find p (x ∷ rest) ≡ find p rest
 find-rest p x rest is = rw is refl
 
--- the first item isn't the one that is looked for, or it is
+-- the first item isn't the one that is looked for
 pub find-skip : {X : Type 0} (p : X → Bool) (xs rest : List X) (x : X) (found : Option X) → xs ≡ x ∷ rest → p x ≡ false → find p xs ≡ found → find p rest ≡ found
 find-skip p xs rest x found is test same = sym (find-rest p x rest test) ∙ sym (ap (find p) is) ∙ same
-
-pub find-here : {X : Type 0} (p : X → Bool) (xs rest : List X) (x : X) (found : Option X) → xs ≡ x ∷ rest → p x ≡ true → find p xs ≡ found → Some x ≡ found
-find-here p xs rest x found is test same = sym (find-first p x rest test) ∙ sym (ap (find p) is) ∙ same
-
-pub find-none : {X : Type 0} (p : X → Bool) (xs : List X) (found : Option X) → xs ≡ [] → find p xs ≡ found → None ≡ found
-find-none p xs found is same = sym (ap (find p) is) ∙ same
 
 all_rest : {X : Type 0} (P : X → Type 0) (x : X) (rest : List X) → All P (x ∷ rest) → All P rest
 all_rest P x rest all k d lt = all (suc k) d (omega arith)

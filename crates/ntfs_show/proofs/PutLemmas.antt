@@ -1,23 +1,29 @@
 -- Bytes that are put piece by piece.
-use Rattle.std.proofs.Common.{◌≡◌, ◌≤◌, ◌+◌, ℕ, List, [], ◌∷◌, ◌++◌, length, take, refl, sym, ap, ◌∙◌, subst, arith, length-append, append_assoc, Ok, Err}
-use Rattle.std.proofs.lemmas.List.{append-nil, take_at}
-use Rattle.ntfs_base.specs.Sink.{SinkState, Put, after_put}
-use Rattle.ntfs_base.proofs.SinkLemmas.{after_put-append, after_put-nil, put_cut, put_then}
-use Rattle.std.proofs.Common.{◌<◌, ◌-◌, ◌*◌, ◌&&◌, zero, suc, min, Bool, true, Option, Some, None, nat_lt}
+use Rattle.std.proofs.Common.{◌≡◌, ◌≤◌, ◌<◌, ◌+◌, ◌-◌, ◌*◌, ◌&&◌, ℕ, zero, suc, List, [], ◌∷◌, ◌++◌, length, take, drop, get_or, min, refl, sym, ap, ◌∙◌, subst, arith, length-append, append_assoc, Ok, Err, Bool, true, Option, Some, None, nat_lt}
 use Rattle.std.specs.Prelude.{IfSome}
 use Rattle.std.specs.Option.{option_map}
+use Rattle.std.proofs.Math.Seq.{take-append-add}
 use Rattle.std.proofs.lemmas.Bool.{ltb-true}
-use Rattle.ntfs_runs.specs.Clusters.{behind, row}
-use Rattle.ntfs_show.specs.Cells.{are_cells, is_cell, map_cells}
-use Rattle.std.proofs.Common.{drop, get_or}
-use Rattle.std.proofs.lemmas.List.{drop_more, length-map, map-append}
+use Rattle.std.proofs.lemmas.List.{append-nil, drop_more, length-map, map-append, take-append-le, take_all}
+use Rattle.ntfs_base.specs.Frames.{IsSettled, Origin, Puts, PutsPrefix}
+use Rattle.ntfs_base.specs.Sink.{Put, SinkState, after_put}
+use Rattle.ntfs_base.specs.declared.fault.PutFault.{PutFault}
+use Rattle.ntfs_base.specs.declared.fault.PutFault.TheVariants as put
+use Rattle.ntfs_base.proofs.SinkLemmas.{after_put-append, after_put-nil}
 use Rattle.ntfs_runs.specs.declared.run.Run.{Run}
-use Rattle.ntfs_runs.specs.Clusters.{vcns}
-use Rattle.ntfs_show.specs.Putting.{IsLeft, IsLeftBehind}
-use Rattle.ntfs_show.specs.declared.stream.Left.{Left}
+use Rattle.ntfs_runs.specs.Clusters.{behind, row, vcns}
 use Rattle.ntfs_runs.proofs.CellsLemmas.{length-row, no_run, vcns-all}
+use Rattle.ntfs_show.specs.Cat.{cat_origin, sink_fault}
+use Rattle.ntfs_show.specs.Cells.{are_cells, is_cell, map_cells}
+use Rattle.ntfs_show.specs.Putting.{IsLeft, IsLeftBehind}
 use Rattle.ntfs_show.specs.StreamBytes.{pieces, shown_cell}
+use Rattle.ntfs_show.specs.declared.stream.Remaining.{Remaining}
 use Rattle.ntfs_show.proofs.TableLemmas.{and-left, and-right}
+
+-- a refusal of the sink cuts the work off
+pub sink-cuts : (fault : PutFault) → IsSettled (cat_origin (sink_fault fault)) → ⊥
+sink-cuts put.Failed settled = settled
+sink-cuts put.NoMemory settled = settled
 
 pub left-start : (all : List ℕ) (sink : SinkState) → IsLeft all all sink sink
 left-start all sink = record { so_far = []; parts = refl; put = sym (after_put-nil sink) }
@@ -30,31 +36,44 @@ left-more all piece rest old now after left is = record {
   put = is ∙ ap (after_put piece) left.put ∙ sym (after_put-append left.so_far piece old);
 }
 
--- nothing is left
-pub left-all : {T E : Type 0} (all : List ℕ) (old now : SinkState) (x : T) → IsLeft all [] old now → Put {E = E} all old (Ok x) now
-left-all all old now x left = record { whole = left.put ∙ ap (λ bytes. after_put bytes old) (sym (left.parts ∙ append-nil left.so_far)); part = tt }
+-- a prefix of a piece was put
+prefix-more : (all piece rest : List ℕ) (old now after : SinkState) → IsLeft all (piece ++ rest) old now → PutsPrefix piece now after → PutsPrefix all old after
+prefix-more all piece rest old now after left is =
+    let k = is.0 in
+    let within : k ≤ length piece = is.1 in (
+      length left.so_far + k,
+      omega (arith, ap length left.parts, length-append left.so_far (piece ++ rest), length-append piece rest, within),
+      is.2
+          ∙ ap (after_put (take k piece)) left.put
+          ∙ sym (after_put-append left.so_far (take k piece) old)
+          ∙ ap (λ bytes. after_put bytes old) (
+          ap (λ xs. left.so_far ++ xs) (sym (take-append-le k piece rest within))
+          ∙ sym (take-append-add left.so_far (piece ++ rest) k)
+          ∙ ap (take (length left.so_far + k)) (sym left.parts)),
+    )
 
 -- a piece was cut off
-pub left-cut : {T U E D : Type 0} (all piece rest : List ℕ) (old now after : SinkState) (e : E) (d : D) → IsLeft all (piece ++ rest) old now → Put {T = T} piece now (Err e) after → Put {T = U} all old (Err d) after
-left-cut {U = U} all piece rest old now after e d left is =
-    let unit : Unit {0} = tt in
-    let cut = put_cut {T = U} piece rest now after d (record { whole = tt; part = is.part }) in
-    let done = put_then left.so_far (piece ++ rest) old now after unit (Err d) (record { whole = left.put; part = tt }) cut in
-    record { whole = tt; part = subst (λ (bytes : List ℕ). (k : ℕ) × (k ≤ length bytes) × (after ≡ after_put (take k bytes) old)) (sym left.parts) done.part }
+pub puts-cut : {E : Type 0} (origin : E → Origin) (all piece rest : List ℕ) (old now after : SinkState) (fault : E) → (IsSettled (origin fault) → ⊥) → IsLeft all (piece ++ rest) old now → PutsPrefix piece now after
+    → Puts origin (Ok all) old (Err fault) after
+puts-cut origin all piece rest old now after fault never left is =
+    record { answer = λ settled. absurd (never settled); output = λ settled. absurd (never settled); prefix = prefix-more all piece rest old now after left is }
 
 -- the work was cut off between two pieces
-pub left-stop : {U D : Type 0} (all rest : List ℕ) (old now : SinkState) (d : D) → IsLeft all rest old now → Put {T = U} all old (Err d) now
-left-stop all rest old now d left = record {
-  whole = tt;
-  part = (
-    length left.so_far,
-    omega (arith, length-append left.so_far rest, ap length left.parts),
-    left.put ∙ ap (λ bytes. after_put bytes old) (sym (take_front left.so_far rest) ∙ ap (take (length left.so_far)) (sym left.parts)),
-  );
-}
-  where
-    take_front : (front rest : List ℕ) → take (length front) (front ++ rest) ≡ front
-    take_front front rest = take_at front rest (length front) refl
+pub puts-stop : {E : Type 0} (origin : E → Origin) (all rest : List ℕ) (old now : SinkState) (fault : E) → (IsSettled (origin fault) → ⊥) → IsLeft all rest old now → Puts origin (Ok all) old (Err fault) now
+puts-stop origin all rest old now fault never left = puts-cut origin all [] rest old now now fault never left (0, omega arith, sym (after_put-nil now))
+
+-- bytes that were put at once
+pub puts-failed : {T E D : Type 0} (origin : E → Origin) (bytes : List ℕ) (old new : SinkState) (why : D) (fault : E) → (IsSettled (origin fault) → ⊥) → Put {T = T} bytes old (Err why) new → Puts origin (Ok bytes) old (Err fault) new
+puts-failed origin bytes old new why fault never put = record { answer = λ settled. absurd (never settled); output = λ settled. absurd (never settled); prefix = put.part }
+
+pub puts-whole : {E : Type 0} (origin : E → Origin) (bytes : List ℕ) (old new : SinkState) → new ≡ after_put bytes old → Puts origin (Ok bytes) old (Ok tt) new
+puts-whole origin bytes old new is =
+    record { answer = λ settled. refl; output = λ settled. is; prefix = (length bytes, omega arith, is ∙ ap (λ xs. after_put xs old) (sym (take_all (length bytes) bytes (omega arith)))) }
+
+-- nothing is left
+pub puts-end : {E : Type 0} (origin : E → Origin) (all rest : List ℕ) (old now : SinkState) → IsLeft all rest old now → rest ≡ [] → Puts origin (Ok all) old (Ok tt) now
+puts-end origin all rest old now left none =
+    puts-whole origin all old now (left.put ∙ ap (λ bytes. after_put bytes old) (sym (left.parts ∙ ap (λ xs. left.so_far ++ xs) none ∙ append-nil left.so_far)))
 
 -- ---- a run, cell by cell
 
@@ -91,13 +110,12 @@ run-step all f c s v count n cell buffer old now after some least is left put =
     (subst (λ (rest : List ℕ). IsLeft all rest old now) (pieces-split f c s v count cell some) left) (put ∙ ap (λ bytes. after_put bytes now) piece)
 
 -- or was cut off
-pub run-cut : {T U E D : Type 0} (all : List ℕ) (f : ℕ → List ℕ) (c s v count n : ℕ) (cell : Option ℕ) (buffer : List ℕ) (old now after : SinkState) (e : E) (d : D) → 0 < count → n ≡ min s c → buffer ≡ shown_cell c v (option_map f cell)
-    → IsLeft all (pieces c s v (map_cells f (row count cell))) old now → Put {T = T} (take n buffer) now (Err e) after → Put {T = U} all old (Err d) after
-run-cut {T = T} all f c s v count n cell buffer old now after e d some least is left put =
+pub run-cut : {E : Type 0} (origin : E → Origin) (all : List ℕ) (f : ℕ → List ℕ) (c s v count n : ℕ) (cell : Option ℕ) (buffer : List ℕ) (old now after : SinkState) (fault : E) → (IsSettled (origin fault) → ⊥)
+    → 0 < count → n ≡ min s c → buffer ≡ shown_cell c v (option_map f cell) → IsLeft all (pieces c s v (map_cells f (row count cell))) old now → PutsPrefix (take n buffer) now after → Puts origin (Ok all) old (Err fault) after
+run-cut origin all f c s v count n cell buffer old now after fault never some least is left put =
     let piece : take n buffer ≡ take (min s c) (shown_cell c v (option_map f cell)) = ap (λ k. take k buffer) least ∙ ap (take (min s c)) is in
-    left-cut all (take (min s c) (shown_cell c v (option_map f cell))) (pieces c (s - c) (v - c) (map_cells f (row (count - 1) (behind cell 1)))) old now after e d
-    (subst (λ (rest : List ℕ). IsLeft all rest old now) (pieces-split f c s v count cell some) left)
-    (subst (λ (bytes : List ℕ). Put {T = T} bytes now (Err e) after) piece put)
+    puts-cut origin all (take (min s c) (shown_cell c v (option_map f cell))) (pieces c (s - c) (v - c) (map_cells f (row (count - 1) (behind cell 1)))) old now after fault never
+    (subst (λ (rest : List ℕ). IsLeft all rest old now) (pieces-split f c s v count cell some) left) (subst (λ (bytes : List ℕ). PutsPrefix bytes now after) piece put)
 
 -- no bytes are left, or no cells
 pub pieces-none : (c v : ℕ) (cells : List (Option (List ℕ))) → pieces c 0 v cells ≡ []
@@ -159,7 +177,7 @@ pieces-run f c s v i runs lt =
     ∙ ap (λ n. pieces c s v (map_cells f cells) ++ pieces c (s - n * c) (v - n * c) (map_cells f (vcns (drop (i + 1) runs)))) long
 
 -- a run was put
-pub runs-step : (all : List ℕ) (f : ℕ → List ℕ) (c i : ℕ) (runs : List Run) (before behind_it : Left) (old now after : SinkState) → i < length runs
+pub runs-step : (all : List ℕ) (f : ℕ → List ℕ) (c i : ℕ) (runs : List Run) (before behind_it : Remaining) (old now after : SinkState) → i < length runs
     → IsLeft all (pieces c before.size before.valid (map_cells f (vcns (drop i runs)))) old now → IsLeftBehind c (get_or runs i no_run).length before behind_it
     → after ≡ after_put (pieces c before.size before.valid (map_cells f (row (get_or runs i no_run).length (get_or runs i no_run).lcn))) now
     → IsLeft all (pieces c behind_it.size behind_it.valid (map_cells f (vcns (drop (i + 1) runs)))) old after
@@ -170,13 +188,12 @@ runs-step all f c i runs before behind_it old now after lt left is put =
     subst (λ (bytes : List ℕ). IsLeft all bytes old after) (sym (ap (λ n. pieces c n behind_it.valid (map_cells f (vcns (drop (i + 1) runs)))) is.size ∙ ap (λ n. pieces c (before.size - run.length * c) n (map_cells f (vcns (drop (i + 1) runs)))) is.valid)) rest
 
 -- or was cut off
-pub runs-cut : {T U E D : Type 0} (all : List ℕ) (f : ℕ → List ℕ) (c i : ℕ) (runs : List Run) (before : Left) (old now after : SinkState) (e : E) (d : D) → i < length runs
+pub runs-cut : {E : Type 0} (origin : E → Origin) (all : List ℕ) (f : ℕ → List ℕ) (c i : ℕ) (runs : List Run) (before : Remaining) (old now after : SinkState) (fault : E) → (IsSettled (origin fault) → ⊥) → i < length runs
     → IsLeft all (pieces c before.size before.valid (map_cells f (vcns (drop i runs)))) old now
-    → Put {T = T} (pieces c before.size before.valid (map_cells f (row (get_or runs i no_run).length (get_or runs i no_run).lcn))) now (Err e) after
-    → Put {T = U} all old (Err d) after
-runs-cut all f c i runs before old now after e d lt left put =
+    → PutsPrefix (pieces c before.size before.valid (map_cells f (row (get_or runs i no_run).length (get_or runs i no_run).lcn))) now after → Puts origin (Ok all) old (Err fault) after
+runs-cut origin all f c i runs before old now after fault never lt left put =
     let run = get_or runs i no_run in
-    left-cut all (pieces c before.size before.valid (map_cells f (row run.length run.lcn))) (pieces c (before.size - run.length * c) (before.valid - run.length * c) (map_cells f (vcns (drop (i + 1) runs)))) old now after e d
+    puts-cut origin all (pieces c before.size before.valid (map_cells f (row run.length run.lcn))) (pieces c (before.size - run.length * c) (before.valid - run.length * c) (map_cells f (vcns (drop (i + 1) runs)))) old now after fault never
     (subst (λ (bytes : List ℕ). IsLeft all bytes old now) (pieces-run f c before.size before.valid i runs lt) left) put
 
 pub runs-end : (f : ℕ → List ℕ) (c s v i : ℕ) (runs : List Run) → length runs ≤ i → pieces c s v (map_cells f (vcns (drop i runs))) ≡ []

@@ -1,10 +1,10 @@
 -- Where the bytes of records and clusters lie.
 use Rattle.std.proofs.Common.{◌≡◌, ◌≤◌, ◌<◌, ◌+◌, ◌-◌, ◌*◌, ℕ, List, take, drop, ap, ◌∙◌, arith, slice_range}
 use Rattle.std.proofs.Math.Nat.{mul-le-mul_left}
-use Rattle.ntfs_boot.specs.Geometry.{clusters_for}
+use Rattle.ntfs_base.specs.Bytes.{clusters_for}
 
 -- so many clusters have room for the bytes
-room_for : (bytes c : ℕ) → 0 < c → bytes ≤ c * clusters_for bytes c
+pub room_for : (bytes c : ℕ) → 0 < c → bytes ≤ c * clusters_for bytes c
 unfolding clusters_for
 room_for bytes c some = omega arith
 

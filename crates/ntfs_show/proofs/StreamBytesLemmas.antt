@@ -8,16 +8,14 @@ use Rattle.std.proofs.Common.{◌⊎◌, inl, inr, nat_le}
 use Rattle.std.proofs.Math.Seq.{take-append-add}
 use Rattle.std.proofs.lemmas.Bool.{cases_lt, leb-true, ltb-true}
 use Rattle.ntfs_show.specs.Cells.{are_cells, is_cell, map_cells}
-use Rattle.std.proofs.Common.{Bor, Err}
-use Rattle.ntfs_base.specs.Sink.{SinkState, Put, after_put}
+use Rattle.std.proofs.Common.{Bor}
 use Rattle.ntfs_boot.specs.declared.geometry.Geometry.{Geometry}
 use Rattle.ntfs_runs.specs.declared.run.Run.{Run}
 use Rattle.ntfs_runs.specs.Clusters.{vcns}
-use Rattle.ntfs_show.specs.Cat.{filled}
-use Rattle.ntfs_show.specs.Gather.{have_room}
-use Rattle.ntfs_show.specs.Reading.{IsReadable, shown_stream}
-use Rattle.ntfs_show.specs.declared.extents.Gathered.{Gathered}
-use Rattle.ntfs_show.specs.declared.extents.Gathered.TheVariants.{Value, Runs}
+use Rattle.ntfs_show.specs.Cat.{filled_stream}
+use Rattle.ntfs_show.specs.Gather.{IsReadable, have_room, shown_stream}
+use Rattle.ntfs_show.specs.declared.extents.Stream.{Stream}
+use Rattle.ntfs_show.specs.declared.extents.Stream.TheVariants.{Value, Runs}
 use Rattle.ntfs_show.proofs.TableLemmas.{clusters-long}
 use Rattle.ntfs_show.proofs.TableLemmas.{and-left, and-right}
 use Rattle.ntfs_show.specs.StreamBytes.{cell_bytes, cells_bytes, pieces, runs_bytes, shown_cell, stream_bytes}
@@ -32,6 +30,18 @@ cleared content buffer after c lcn valid at k from same within place long least 
     let front : take from buffer ≡ take valid buffer = ap (λ n. take n buffer) (least ∙ ap (min valid) (same ∙ sym long)) ∙ take_min valid buffer in
     let rest : length buffer - from ≡ c - valid = omega (arith, long, least, same) in
     is ∙ ap (λ xs. xs ++ replicate (length buffer - from) 0) front ∙ ap (λ n. take valid buffer ++ replicate n 0) rest ∙ ap (λ xs. take valid xs ++ replicate (c - valid) 0) bytes
+
+-- a hole is zeros
+pub hole-cell : (c v : ℕ) → shown_cell c v None ≡ replicate c 0
+hole-cell c v = by_size (cases_lt v c)
+  where
+    by_size : (v < c) ⊎ (c ≤ v) → shown_cell c v None ≡ replicate c 0
+    by_size (inl small) =
+        let whole : v + (c - v) ≡ c = omega arith in
+        ap (λ xs. xs ++ replicate (c - v) 0) (take-replicate v c 0 (omega arith)) ∙ replicate-append-replicate v (c - v) 0 ∙ ap (λ n. replicate n 0) whole
+    by_size (inr large) =
+        let none : c - v ≡ 0 = omega arith in
+        ap (λ n. take v (replicate c 0) ++ replicate n 0) none ∙ append-nil (take v (replicate c 0)) ∙ take_all v (replicate c 0) (omega (arith, length-replicate {A = ℕ} c 0))
 
 cluster_end : (k n c : ℕ) → k < n → k * c + c ≤ n * c
 cluster_end k n c lt = grind arith
@@ -104,21 +114,15 @@ unfolding runs_bytes
 runs-whole f c n s v cells long are room =
     pieces-whole f c n s v cells long are (leb-true v s (and-right (nat_le s (length cells * c)) (nat_le v s) room)) (leb-true s (length cells * c) (and-left (nat_le s (length cells * c)) (nat_le v s) room))
 
-pub room-valid : (c vcns s v : ℕ) → have_room c vcns s v ≡ true → v ≤ s
-room-valid c vcns s v room = leb-true v s (and-right (nat_le s (vcns * c)) (nat_le v s) room)
-
 -- the bytes of a stream that was gathered
-pub value-bytes : (g : Geometry) (content : List ℕ) (stream : Gathered) (flags : ℕ) (value : Bor (List ℕ)) → stream ≡ Value flags value → value.now ≡ stream_bytes g.cluster (filled g content (shown_stream stream))
+pub value-bytes : (g : Geometry) (content : List ℕ) (stream : Stream) (flags : ℕ) (value : Bor (List ℕ)) → stream ≡ Value flags value → value.now ≡ stream_bytes g.cluster (filled_stream g content (shown_stream stream))
 unfolding stream_bytes
-value-bytes g content stream flags value is = ap (λ (s : Gathered). stream_bytes g.cluster (filled g content (shown_stream s))) (sym is)
+value-bytes g content stream flags value is = ap (λ (s : Stream). stream_bytes g.cluster (filled_stream g content (shown_stream s))) (sym is)
 
-pub runs-bytes : (g : Geometry) (content : List ℕ) (stream : Gathered) (flags size valid : ℕ) (runs : List Run) → stream ≡ Runs flags size valid runs → IsReadable g stream → g.clusters * g.cluster ≤ length content
-    → pieces g.cluster size valid (map_cells (cluster_at content g.cluster) (vcns runs)) ≡ stream_bytes g.cluster (filled g content (shown_stream stream))
+pub runs-bytes : (g : Geometry) (content : List ℕ) (stream : Stream) (flags size valid : ℕ) (runs : List Run) → stream ≡ Runs flags size valid runs → IsReadable g stream → g.clusters * g.cluster ≤ length content
+    → pieces g.cluster size valid (map_cells (cluster_at content g.cluster) (vcns runs)) ≡ stream_bytes g.cluster (filled_stream g content (shown_stream stream))
 unfolding stream_bytes
 runs-bytes g content stream flags size valid runs is readable held =
     let can : IsReadable g (Runs flags size valid runs) = subst (IsReadable g) is readable in
     runs-whole (cluster_at content g.cluster) g.cluster g.clusters size valid (vcns runs) (clusters-long content g.cluster g.clusters held) can.0 can.1
-    ∙ ap (λ (s : Gathered). stream_bytes g.cluster (filled g content (shown_stream s))) (sym is)
-
-pub put-as : {T U E D : Type 0} (bytes all : List ℕ) (old new : SinkState) (e : E) (d : D) → bytes ≡ all → Put {T = T} bytes old (Err e) new → Put {T = U} all old (Err d) new
-put-as bytes all old new e d same is = record { whole = tt; part = subst (λ (xs : List ℕ). (k : ℕ) × (k ≤ length xs) × (new ≡ after_put (take k xs) old)) same is.part }
+    ∙ ap (λ (s : Stream). stream_bytes g.cluster (filled_stream g content (shown_stream s))) (sym is)

@@ -5,10 +5,9 @@ use Rattle.std.proofs.Common.{length-append, append_assoc}
 use Rattle.std.proofs.lemmas.List.{drop-drop, drop_at, take_at, length-take-le, length-drop}
 use Rattle.std.proofs.Math.Seq.{take-add}
 use Rattle.std.proofs.lemmas.List.{length-take}
-use Rattle.std.specs.Prelude.{Result, Ok, Err, IfErr}
-use Rattle.ntfs_base.specs.declared.refusal.Missing.TheVariants as missing
-use Rattle.ntfs_show.specs.Reading.{block_of, live_block}
-use Rattle.ntfs_show.specs.declared.cat_fault.CatFault.TheVariants as cat
+use Rattle.std.specs.Prelude.{Result, Ok, Err}
+use Rattle.std.specs.Option.{ok_or}
+use Rattle.ntfs_show.specs.declared.cat_fault.CatFault.{CatFault}
 use borrow.Rule.Slice.PartMut.{put_mid}
 use Rattle.ntfs_base.specs.Bytes.{overwrite}
 use Rattle.ntfs_base.proofs.OverwriteLemmas.{put_mid-overwrite}
@@ -17,7 +16,7 @@ use Rattle.ntfs_base.proofs.BytesLemmas.{length-cluster_at, raw_of-within, take-
 use Rattle.ntfs_boot.specs.declared.geometry.Geometry.{Geometry}
 use Rattle.ntfs_show.specs.Cells.{are_cells}
 use Rattle.ntfs_show.specs.Gather.{have_room}
-use Rattle.ntfs_show.specs.MftMap.{Map, clusters_in, is_record_count, is_table, record_bytes, table_bytes}
+use Rattle.ntfs_show.specs.MftMap.{Map, clusters_in, is_record_count, is_table, map_of, raw_record}
 use Rattle.ntfs_show.proofs.ReadLemmas.{read-from}
 
 pub and-left : (a b : Bool) → (a && b) ≡ true → a ≡ true
@@ -144,8 +143,8 @@ record_ends r valid size some lt = grind arith
 
 -- a record that lies in the initialised part
 pub record-there : (g : Geometry) (content : List ℕ) (cells : List (Option ℕ)) (size valid r : ℕ) → 0 < g.record_size → g.clusters * g.cluster ≤ length content → is_table g cells size valid ≡ true → r < valid / g.record_size
-    → record_bytes g (record { clusters = clusters_in cells; size = size; valid = valid }) content r ≡ Some (take g.record_size (drop (r * g.record_size) (stream (cluster_at content g.cluster) (clusters_in cells))))
-unfolding record_bytes table_bytes
+    → raw_record g (map_of cells size valid) content r ≡ Some (take g.record_size (drop (r * g.record_size) (stream (cluster_at content g.cluster) (clusters_in cells))))
+unfolding raw_record
 record-there g content cells size valid r some held table lt =
     let all = stream (cluster_at content g.cluster) (clusters_in cells) in
     let long : length all ≡ length cells * g.cluster = length-table (cluster_at content g.cluster) g.cluster g.clusters cells (clusters-long content g.cluster g.clusters held) (table-cells g cells size valid table) in
@@ -162,30 +161,26 @@ unfolding raw_of
 none_of size r bytes short = rw (lt-leb (r * size + size) (length bytes) short) refl
 
 -- one that doesn't
-pub record-past : (g : Geometry) (content : List ℕ) (map : Map) (r : ℕ) → 0 < g.record_size → map.valid / g.record_size ≤ r → record_bytes g map content r ≡ None
-unfolding record_bytes table_bytes
+pub record-past : (g : Geometry) (content : List ℕ) (map : Map) (r : ℕ) → 0 < g.record_size → map.valid / g.record_size ≤ r → raw_record g map content r ≡ None
+unfolding raw_record
 record-past g content map r some le =
     let all = stream (cluster_at content g.cluster) map.clusters in
     none_of g.record_size r (take map.valid all) (omega (arith, record_past r map.valid g.record_size some le, length-take map.valid all))
 
--- the block of a record that was read
-pub read-there : (g : Geometry) (content : List ℕ) (cells : List (Option ℕ)) (size valid r k len : ℕ) (block : List ℕ) → 0 < g.record_size → g.clusters * g.cluster ≤ length content → is_table g cells size valid ≡ true
-    → k ≡ g.record_size → len ≡ g.record_size → r < valid / k → block ≡ take len (drop (r * k) (stream (cluster_at content g.cluster) (clusters_in cells)))
-    → block_of r (record_bytes g (record { clusters = clusters_in cells; size = size; valid = valid }) content r) ≡ live_block r block
-read-there g content cells size valid r k len block some held table same long lt read =
+-- the bytes of a record that were read
+pub read-there : (g : Geometry) (content : List ℕ) (cells : List (Option ℕ)) (size valid r k len : ℕ) (fault : CatFault) → 0 < g.record_size → g.clusters * g.cluster ≤ length content → is_table g cells size valid ≡ true
+    → k ≡ g.record_size → len ≡ g.record_size → r < valid / k
+    → ok_or (raw_record g (map_of cells size valid) content r) fault ≡ Ok (take len (drop (r * k) (stream (cluster_at content g.cluster) (clusters_in cells))))
+read-there g content cells size valid r k len fault some held table same long lt =
     let all = stream (cluster_at content g.cluster) (clusters_in cells) in
-    ap (block_of r) (record-there g content cells size valid r some held table (subst (λ (n : ℕ). r < valid / n) same lt))
-    ∙ sym (ap (live_block r) (read ∙ ap (λ n. take n (drop (r * k) all)) long ∙ ap (λ n. take g.record_size (drop (r * n) all)) same))
+    ap (λ raw. ok_or raw fault) (record-there g content cells size valid r some held table (subst (λ (n : ℕ). r < valid / n) same lt))
+    ∙ sym (ap Ok (ap (λ n. take n (drop (r * k) all)) long ∙ ap (λ n. take g.record_size (drop (r * n) all)) same))
 
-pub read-past : (g : Geometry) (content : List ℕ) (map : Map) (r k : ℕ) → 0 < g.record_size → k ≡ g.record_size → map.valid / k ≤ r → block_of r (record_bytes g map content r) ≡ Err (cat.NotFound (missing.Record r))
-read-past g content map r k some same le = ap (block_of r) (record-past g content map r some (subst (λ (n : ℕ). map.valid / n ≤ r) same le))
+pub read-past : (g : Geometry) (content : List ℕ) (map : Map) (r k : ℕ) (fault : CatFault) → 0 < g.record_size → k ≡ g.record_size → map.valid / k ≤ r → ok_or (raw_record g map content r) fault ≡ Err fault
+read-past g content map r k fault some same le = ap (λ raw. ok_or raw fault) (record-past g content map r some (subst (λ (n : ℕ). map.valid / n ≤ r) same le))
 
 pub record-room : (g : Geometry) (cells : List (Option ℕ)) (size valid r k len : ℕ) → 0 < g.record_size → is_table g cells size valid ≡ true → k ≡ g.record_size → len ≡ g.record_size → r < valid / k → r * k + len ≤ length cells * g.cluster
 record-room g cells size valid r k len some table same long lt =
     let ends = record_ends r valid g.record_size some (subst (λ (n : ℕ). r < valid / n) same lt) in
     let place : r * k ≡ r * g.record_size = ap (λ n. r * n) same in
     omega (arith, ends, place, long, table-room g cells size valid table)
-
-pub if_err_weaker : {T E : Type 0} (r : Result T E) (P Q : E → Type 0) → ((e : E) → P e → Q e) → IfErr r P → IfErr r Q
-if_err_weaker (Ok x) P Q more is = is
-if_err_weaker (Err e) P Q more is = more e is

@@ -1,5 +1,5 @@
--- What a run list says, with a cell for each VCN: a hole, or what stands for its cluster. First that is the cluster's number,
--- and then its bytes. The form is ours.
+-- What a run list says, with a cell for each VCN: a hole, or what stands for its cluster. First that is the cluster's
+-- number, and then its bytes. The form is ours.
 use Rattle.std.specs.Prelude.{◌&&◌, ℕ, Bool, true, List, [], ◌∷◌, map, Option, Some, None, nat_lt}
 use Rattle.std.specs.Option.{option_map}
 use Rattle.ntfs_runs.specs.Reading.{cells_of}
@@ -25,4 +25,7 @@ are_cells holes n (cell ∷ cells) = is_cell holes n cell && are_cells holes n c
 
 -- what the bytes of mapping pairs spell on a volume of n clusters
 unfoldable pub cells_below : ℕ → List ℕ → Cells ℕ
-cells_below n pairs = record { is_right = (cells_of pairs).is_right && are_cells true n (cells_of pairs).cells; cells = (cells_of pairs).cells }
+cells_below n pairs = record {
+  is_right = (cells_of pairs).is_right && are_cells true n (cells_of pairs).cells;
+  cells = (cells_of pairs).cells;
+}

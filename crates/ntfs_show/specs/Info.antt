@@ -1,5 +1,5 @@
--- What is printed of a volume's geometry: nine lines, a label and a number each, the serial number in 16 hexadecimal digits.
--- The texts are this project's own.
+-- What is printed of a volume's geometry: nine lines, a label and a number each, the serial number in 16 hexadecimal
+-- digits. The texts are this project's own.
 use Rattle.std.specs.Prelude.{ℕ, List, [], ◌∷◌, ◌++◌, codes}
 use Rattle.std.specs.Fmt.{decimal}
 use Rattle.std.specs.Int.{w64, to_be_bytes}

@@ -11,5 +11,4 @@ pub mod Gather
 pub mod MftMap
 pub mod StreamBytes
 pub mod Cat
-pub mod Reading
 pub mod Putting

@@ -1,6 +1,6 @@
--- The bytes of a stream: the value of a resident one, or the first bytes of its clusters, with zeros in holes and from the
--- initialised size on (the Linux-NTFS documentation, "$DATA" and "Attribute Header"; the words are ours).
-use Rattle.std.specs.Prelude.{◌-◌, ◌/◌, ◌%◌, ◌==◌, ◌&&◌, ℕ, Bool, List, [], ◌∷◌, ◌++◌, take, min, replicate, Option, Some, None, if◌then◌else◌}
+-- The bytes of a stream: the value of a resident one, or the first bytes of its clusters, with zeros in holes and from
+-- the initialised size on (the Linux-NTFS documentation, "$DATA" and "Attribute Header"; the words are ours).
+use Rattle.std.specs.Prelude.{◌≡◌, ◌-◌, ◌/◌, ◌%◌, ◌==◌, ◌&&◌, ℕ, Bool, List, [], ◌∷◌, ◌++◌, take, min, replicate, Option, Some, None, if◌then◌else◌}
 use Rattle.ntfs_show.specs.Gather.{Stream}
 
 -- the flags of a stream that is neither compressed nor encrypted: a low byte of 0, and no 0x4000
@@ -32,4 +32,10 @@ shown_cell c valid cell = take valid (cell_bytes c cell) ++ replicate (c - valid
 -- what the cells show of a stream of which so many bytes, and so many initialised ones, are left
 unfoldable pub pieces : ℕ → ℕ → ℕ → List (Option (List ℕ)) → List ℕ
 pieces c size valid [] = []
-pieces c size valid (cell ∷ cells) = take (min size c) (shown_cell c valid cell) ++ pieces c (size - c) (valid - c) cells
+pieces c size valid (cell ∷ cells) =
+    take (min size c) (shown_cell c valid cell) ++ pieces c (size - c) (valid - c) cells
+
+-- a cell of a cluster's number without initialised bytes: a hole, or one of which no byte is initialised
+abbrev pub HasNoBytes : Option ℕ → ℕ → Type 0
+HasNoBytes None valid = Unit {0}
+HasNoBytes (Some k) valid = valid ≡ 0

@@ -1,21 +1,22 @@
 //! The extents of a record's unnamed data, gathered.
 
-ghost use Rattle.std.specs.Prelude.{◌≡◌, ◌≤◌, ◌&&◌, ◌==◌, ◌++◌, ℕ, [], true, map, IfOk, IfErr, OnOk};
+ghost use Rattle.std.specs.Prelude.{◌≡◌, ◌≤◌, ◌&&◌, ◌==◌, ◌++◌, ℕ, List, Some, [], true, map, IfOk, IfErr, OnOk};
+ghost use Rattle.ntfs_base.specs.Frames.{Gives, IsJudged};
 ghost use Rattle.ntfs_record.specs.Entry.{map_parts};
-ghost use Rattle.ntfs_record.specs.Views.{shown_body, shown_part};
+ghost use Rattle.ntfs_record.specs.Views.{shown_part, shown_view};
 ghost use Rattle.ntfs_runs.specs.Clusters.{vcns};
-ghost use Rattle.ntfs_show.specs.Cat.{GivesBy, IsJudged};
-ghost use Rattle.ntfs_show.specs.Cells.{Cells, cells_below};
-ghost use Rattle.ntfs_show.specs.Gather.{Extent, are_right, have_room, is_right, joined, stream_in};
-ghost use Rattle.ntfs_show.specs.Records.{tells_own};
-ghost use Rattle.ntfs_show.specs.Reading.{Adds, IsPairsFault, IsReadable, Joins, ReadsRuns, body_extent, entry_stream, shown_extents, shown_stream};
+ghost use Rattle.ntfs_show.specs.Cat.{cat_origin, stream_at};
+ghost use Rattle.ntfs_show.specs.Cells.{cells_below};
+ghost use Rattle.ntfs_show.specs.Gather.{AreRuns, IsPairsFault, IsReadable, JoinsFrom, TakesExtent, are_right, gather, have_room, is_right, shown_extent, shown_extents, shown_stream, stream_in, stream_of_runs};
+ghost use Rattle.ntfs_show.specs.Records.{IsViewOf, map_slot, own_slot, tells_own};
 
 use crate::cat_fault::{CatFault, damaged};
 use crate::cells::{append, are_cells, count_of, have_room};
-use crate::sought::{Sought, first_sought, is_sought};
+use crate::records::{SlotView, no_record};
+use crate::wanted::{Wanted, first_of, is_wanted};
 use ntfs_base::{Missing, Rule};
 use ntfs_boot::Geometry;
-use ntfs_record::{Body, RecordView};
+use ntfs_record::{AttributeView, Body, RecordView};
 use ntfs_runs::{PairsFault, Run, RunList, decode};
 use std::alloc::{AllocError, Global};
 
@@ -29,7 +30,7 @@ pub(crate) struct Extents {
 
 /// A stream: its value, or its sizes and where its clusters lie.
 #[derive(Drop)]
-pub(crate) enum Gathered<'a> {
+pub(crate) enum Stream<'a> {
     Value {
         flags: u16,
         value: &'a [u8],
@@ -42,37 +43,23 @@ pub(crate) enum Gathered<'a> {
     },
 }
 
-/// Why pairs give no run list that can be read.
-#[derive(Clone, Copy)]
-enum Unread {
-    /// They are wrong.
-    Wrong,
-    NoMemory,
-}
-
-impl From<AllocError> for Unread {
-    ghost use Rattle.std.specs.Prelude.{◌≡◌};
-    ghost use Rattle.ntfs_show.specs.declared.extents.Unread.TheVariants.{NoMemory};
-
-    ghost from_gives = { λ _ unread. unread ≡ NoMemory };
-
-    fn from(_: AllocError) -> Unread {
-        Unread::NoMemory
-    }
-}
-
-/// The runs of pairs that spell so many VCNs, all below the number of clusters.
-fn read_runs(alloc: Global, pairs: &[u8], count: u64, clusters: u64) -> Result<RunList, Unread>
-    ensures { ReadsRuns clusters count pairs.now result }
+/// The runs of pairs that spell so many VCNs, all below the number of clusters; none of other pairs.
+fn read_runs(
+    alloc: Global,
+    pairs: &[u8],
+    count: u64,
+    clusters: u64,
+) -> Result<Option<RunList>, AllocError>
+    ensures { IfOk result (AreRuns clusters count pairs.now) }
 {
     match decode(alloc, pairs) {
-        Err(PairsFault::NoMemory) => Err(Unread::NoMemory),
-        Err(PairsFault::BadPairs { .. }) => Err(Unread::Wrong),
+        Err(PairsFault::NoMemory) => Err(AllocError),
+        Err(PairsFault::BadPairs { .. }) => Ok(None),
         Ok(list) => {
             if are_cells(list.runs(), true, clusters) && count_of(list.runs()) == count {
-                Ok(list)
+                Ok(Some(list))
             } else {
-                Err(Unread::Wrong)
+                Ok(None)
             }
         }
     }
@@ -104,18 +91,20 @@ impl Extents {
     }
 
     /// Takes one extent more.
-    fn add(
+    fn take(
         &mut self,
         alloc: Global,
-        body: &Body<'_>,
+        extent: &AttributeView<'_>,
         clusters: u64,
         number: u64,
     ) -> Result<(), CatFault>
-        requires { (shown_body body.now).lowest ≤ (shown_body body.now).next }
-        ensures adds { OnOk result (Adds clusters self.old (body_extent clusters (shown_body body.now)) self.new) }
-        ensures refusal { IfErr result (IsPairsFault number (is_right (body_extent clusters (shown_body body.now)))) }
+        requires { (shown_view extent.now).body.lowest ≤ (shown_view extent.now).body.next }
+        ensures takes { OnOk result (TakesExtent clusters self.old
+            (shown_extent (cells_below clusters) (shown_view extent.now)) self.new) }
+        ensures refusal { IfErr result (IsPairsFault number
+            (is_right (shown_extent (cells_below clusters) (shown_view extent.now)))) }
     {
-        match body {
+        match extent.body {
             Body::Resident { .. } => {
                 self.joins = false;
                 Ok(())
@@ -125,10 +114,9 @@ impl Extents {
                 next,
                 pairs,
                 ..
-            } => match read_runs(alloc, pairs, next - lowest, clusters) {
-                Err(Unread::Wrong) => Err(damaged(Rule::C7, number)),
-                Err(Unread::NoMemory) => Err(CatFault::NoMemory),
-                Ok(runs) => Ok(self.join(*lowest, *next, runs.runs())?),
+            } => match read_runs(alloc, pairs, next - lowest, clusters)? {
+                None => Err(damaged(Rule::C7, number)),
+                Some(runs) => Ok(self.join(lowest, next, runs.runs())?),
             },
         }
     }
@@ -137,17 +125,19 @@ impl Extents {
 /// All extents of the unnamed data of a record.
 fn gather_extents(
     alloc: Global,
-    entry: &RecordView<'_>,
+    view: &RecordView<'_>,
     clusters: u64,
     number: u64,
 ) -> Result<Extents, CatFault>
-    ensures joins { IfOk result (Joins clusters (shown_extents clusters (map shown_part entry.now.parts))) }
-    ensures refusal { IfErr result (IsPairsFault number (are_right (shown_extents clusters (map shown_part entry.now.parts)))) }
+    ensures joins { IfOk result (λ all.
+        JoinsFrom clusters (shown_extents (cells_below clusters) (map shown_part view.now.parts)) all []) }
+    ensures refusal { IfErr result (IsPairsFault number
+        (are_right (shown_extents (cells_below clusters) (map shown_part view.now.parts)))) }
 {
     let mut extents = Extents::new(alloc);
-    'attributes: for view in entry.attributes() {
-        if is_sought(&view, Sought::Data) {
-            extents.add(alloc, &view.body, clusters, number)?;
+    'attributes: for attribute in view.attributes() {
+        if is_wanted(&attribute, Wanted::Data) {
+            extents.take(alloc, &attribute, clusters, number)?;
         }
     }
     Ok(extents)
@@ -164,22 +154,22 @@ fn fit(extents: &Extents, cluster: u32, size: u64, valid: u64) -> bool
 fn runs_of<'a>(
     alloc: Global,
     geometry: &Geometry,
-    entry: &RecordView<'a>,
+    view: &RecordView<'a>,
     number: u64,
     flags: u16,
     size: u64,
     valid: u64,
-) -> Result<Gathered<'a>, CatFault>
-    ensures gathered { (first : Extent (Cells ℕ)) → first.flags ≡ flags → first.size ≡ size → first.valid ≡ valid
-        → GivesBy shown_stream (joined geometry.now.cluster number first (shown_extents geometry.now.clusters (map shown_part entry.now.parts))) result }
+) -> Result<Stream<'a>, CatFault>
+    ensures gives { Gives cat_origin shown_stream (stream_of_runs geometry.now.cluster number flags size valid
+        (shown_extents (cells_below geometry.now.clusters) (map shown_part view.now.parts))) result }
     ensures readable { IfOk result (IsReadable geometry.now) }
-    ensures judged { IsJudged result }
+    ensures judged { IsJudged cat_origin result }
 {
-    let extents = gather_extents(alloc, entry, geometry.clusters, number)?;
+    let extents = gather_extents(alloc, view, geometry.clusters, number)?;
     if !fit(&extents, geometry.cluster, size, valid) {
         return Err(damaged(Rule::C12, number));
     }
-    Ok(Gathered::Runs {
+    Ok(Stream::Runs {
         flags,
         size,
         valid,
@@ -188,37 +178,33 @@ fn runs_of<'a>(
 }
 
 /// The stream of the attributes of a base record.
+#[tactic(auto, using(crate::proofs::ExtentsLemmas::stream_steps))]
 fn stream_in<'a>(
     alloc: Global,
     geometry: &Geometry,
-    entry: &RecordView<'a>,
+    view: &RecordView<'a>,
     number: u64,
-) -> Result<Gathered<'a>, CatFault>
-    ensures gathered { GivesBy shown_stream (stream_in geometry.now.cluster number (map_parts (cells_below geometry.now.clusters) entry.now.parts)) result }
+) -> Result<Stream<'a>, CatFault>
+    ensures gives { Gives cat_origin shown_stream
+        (stream_in geometry.now.cluster number (map_parts (cells_below geometry.now.clusters) view.now.parts)) result }
     ensures readable { IfOk result (IsReadable geometry.now) }
-    ensures judged { IsJudged result }
+    ensures judged { IsJudged cat_origin result }
 {
-    if first_sought(entry, Sought::List).is_some() {
+    if first_of(view, Wanted::List).is_some() {
         return Err(damaged(Rule::C11, number));
     }
-    match first_sought(entry, Sought::Data) {
+    match first_of(view, Wanted::Data) {
         None => Err(CatFault::NotFound {
             what: Missing::Stream,
         }),
         Some(first) => match first.body {
-            Body::Resident { value } => Ok(Gathered::Value {
+            Body::Resident { value } => Ok(Stream::Value {
                 flags: first.flags,
                 value,
             }),
-            Body::Runs { size, valid, .. } => runs_of(
-                alloc,
-                geometry,
-                entry,
-                number,
-                first.flags,
-                size,
-                valid,
-            ),
+            Body::Runs { size, valid, .. } => {
+                runs_of(alloc, geometry, view, number, first.flags, size, valid)
+            }
         },
     }
 }
@@ -232,25 +218,44 @@ fn tells_own(told: Option<u32>, number: u64) -> bool
     }
 }
 
-/// The unnamed data stream of a record of this number that is in use.
-#[tactic(auto, unfolding(crate::specs::Reading::entry_stream))]
+/// The unnamed data stream of a record in use of which nothing but its number may be wrong.
+#[tactic(auto, using(crate::proofs::CatLemmas::own_steps))]
+fn gather_sound<'a>(
+    alloc: Global,
+    geometry: &Geometry,
+    view: &RecordView<'a>,
+    number: u64,
+) -> Result<Stream<'a>, CatFault>
+    ensures gives { Gives cat_origin shown_stream (gather geometry.now.cluster number
+        (map_slot (cells_below geometry.now.clusters) (own_slot number view.now))) result }
+    ensures readable { IfOk result (IsReadable geometry.now) }
+    ensures judged { IsJudged cat_origin result }
+{
+    if !tells_own(view.number(), number) {
+        return Err(damaged(Rule::C4, number));
+    }
+    if view.base() != 0 {
+        return Err(no_record(number));
+    }
+    stream_in(alloc, geometry, view, number)
+}
+
+/// The unnamed data stream of the record of this number.
+#[tactic(auto, using(crate::proofs::CatLemmas::slot_steps))]
 pub(crate) fn gather<'a>(
     alloc: Global,
     geometry: &Geometry,
-    entry: &RecordView<'a>,
+    slot: &SlotView<'a>,
     number: u64,
-) -> Result<Gathered<'a>, CatFault>
-    ensures gathered { GivesBy shown_stream (entry_stream geometry.now number entry.now) result }
+) -> Result<Stream<'a>, CatFault>
+    ensures gives { (raw : List ℕ) → IsViewOf raw slot.now
+        → Gives cat_origin shown_stream (stream_at geometry.now number (Some raw)) result }
     ensures readable { IfOk result (IsReadable geometry.now) }
-    ensures judged { IsJudged result }
+    ensures judged { IsJudged cat_origin result }
 {
-    if !tells_own(entry.number(), number) {
-        return Err(damaged(Rule::C4, number));
+    match slot {
+        SlotView::Idle => Err(no_record(number)),
+        SlotView::Unsound => Err(damaged(Rule::C4, number)),
+        SlotView::Sound { view } => gather_sound(alloc, geometry, view, number),
     }
-    if entry.base() != 0 {
-        return Err(CatFault::NotFound {
-            what: Missing::Record { number },
-        });
-    }
-    stream_in(alloc, geometry, entry, number)
 }

@@ -1,6 +1,6 @@
-ghost use Rattle.std.specs.Prelude.{◌≡◌, ◌≤◌, ◌+◌, ◌++◌, length, IsErrOf};
-ghost use Rattle.ntfs_base.specs.Sink.{Put};
-ghost use Rattle.ntfs_show.specs.Fault.{PutsOnly};
+ghost use Rattle.std.specs.Prelude.{◌≡◌, ◌≤◌, ◌+◌, ◌++◌, Ok, length};
+ghost use Rattle.ntfs_base.specs.Frames.{OnlyPuts, Puts};
+ghost use Rattle.ntfs_show.specs.Fault.{show_origin};
 ghost use Rattle.ntfs_show.specs.Info.{info_lines, label_text, number_line, serial_line};
 
 use crate::fault::ShowFault;
@@ -23,13 +23,12 @@ enum Label {
 
 /// Prints the geometry of a volume in nine lines, and takes no memory.
 ///
-/// The lines are the sizes of a sector, a cluster, a file record and an index block in bytes, the numbers of sectors and
-/// clusters, the first clusters of $MFT and $MFTMirr, and the serial number in 16 hexadecimal digits. After a refusal a
-/// front of them was put.
+/// The lines are the sizes of a sector, a cluster, a file record and an index block in bytes, the numbers of sectors
+/// and clusters, the first clusters of $MFT and $MFTMirr, and the serial number in 16 hexadecimal digits. After a
+/// refusal a prefix of them was put.
 pub fn info_volume<K: Sink>(geometry: &Geometry, out: &mut K) -> Result<(), ShowFault>
-    ensures put { Put (info_lines geometry.now) (K.seen out.old) result (K.seen out.new) }
-    ensures nothing { IsErrOf result ShowFault.NoMemory → K.seen out.new ≡ K.seen out.old }
-    ensures cause { PutsOnly (K.faults out.old) (K.faults out.new) result }
+    ensures puts { Puts show_origin (Ok (info_lines geometry.now)) (K.seen out.old) result (K.seen out.new) }
+    ensures frame { OnlyPuts K.Sink show_origin out.old out.new result }
 {
     let text = text_of(geometry);
     out.put(text.as_bytes())?;

@@ -10,8 +10,8 @@ mod info;
 mod mft_map;
 mod pieces;
 mod records;
-mod sought;
 mod stream;
+mod wanted;
 
 pub use cat::cat_record;
 pub use cat_fault::CatFault;

@@ -1,22 +1,22 @@
 //! $MFT's map.
 
-ghost use Rattle.std.specs.Prelude.{◌≡◌, ◌≤◌, ◌+◌, ◌*◌, IfOk, IsTrue, Some, length, vec_len};
-ghost use Rattle.ntfs_boot.specs.Geometry.{IsGood, volume_bytes};
+ghost use Rattle.std.specs.Prelude.{◌≡◌, ◌≤◌, ◌+◌, ◌*◌, IfOk, length, vec_len};
+ghost use Rattle.ntfs_base.specs.Frames.{Gives, IfTold, IsJudged, OnlyReads};
+ghost use Rattle.ntfs_boot.specs.Geometry.{IsGood, IsOpened, bytes_of_clusters};
 ghost use Rattle.ntfs_fixup.specs.Fixups.{HasWholeStrides};
-ghost use Rattle.ntfs_record.specs.Views.{shown_body};
+ghost use Rattle.ntfs_record.specs.Views.{shown_view};
 ghost use Rattle.ntfs_runs.specs.Clusters.{AreSpellable, vcns};
-ghost use Rattle.ntfs_show.specs.Cat.{GivesBy, IsJudged, OnlyReads};
-ghost use Rattle.ntfs_show.specs.MftMap.{is_record_count, is_table, map_in, map_of_entry, map_of_extent, mft_map};
-ghost use Rattle.ntfs_show.specs.Reading.{IsMap, IsOpened, or_no_map, pairs_extent, shown_map};
+ghost use Rattle.ntfs_show.specs.Cat.{cat_origin};
+ghost use Rattle.ntfs_show.specs.Gather.{shown_extent};
+ghost use Rattle.ntfs_show.specs.MftMap.{IsMap, is_record_count, is_table, map_in, map_of_entry, map_of_extent, mft_map, no_map, shown_map};
 
 use crate::cat_fault::{CatFault, damaged};
 use crate::cells::{are_cells, count_of, have_room};
-use crate::records::is_in_use;
-use crate::sought::{Sought, first_sought};
+use crate::records::{SlotView, slot_in};
+use crate::wanted::{Wanted, first_of};
 use ntfs_base::{Image, Rule};
 use ntfs_boot::Geometry;
-use ntfs_fixup::{Magic, unfix};
-use ntfs_record::{Body, RecordView, parse};
+use ntfs_record::{AttributeView, Body, RecordView};
 use ntfs_runs::{PairsFault, Run, RunList, decode};
 use std::alloc::{AllocError, Global};
 
@@ -29,7 +29,7 @@ pub(crate) struct MftMap {
 }
 
 fn no_map() -> CatFault
-    ensures { result ≡ CatFault.Damaged Rule.C3 0 }
+    ensures { result ≡ no_map }
 {
     damaged(Rule::C3, 0)
 }
@@ -54,13 +54,14 @@ fn is_table(geometry: &Geometry, runs: &[Run], size: u64, valid: u64) -> bool
 }
 
 /// The map that the first extent of $MFT gives.
-fn map_of(alloc: Global, geometry: &Geometry, body: &Body<'_>) -> Result<MftMap, CatFault>
+fn map_of(alloc: Global, geometry: &Geometry, first: &AttributeView<'_>) -> Result<MftMap, CatFault>
     requires { IsGood geometry.now }
-    ensures map { GivesBy shown_map (or_no_map (map_of_extent geometry.now (Some (pairs_extent (shown_body body.now))))) result }
+    ensures gives { Gives cat_origin shown_map
+        (map_of_extent geometry.now (shown_extent (λ pairs. pairs) (shown_view first.now))) result }
     ensures followed { IfOk result (IsMap geometry.now) }
-    ensures judged { IsJudged result }
+    ensures judged { IsJudged cat_origin result }
 {
-    match body {
+    match first.body {
         Body::Resident { .. } => Err(no_map()),
         Body::Runs {
             size,
@@ -71,56 +72,49 @@ fn map_of(alloc: Global, geometry: &Geometry, body: &Body<'_>) -> Result<MftMap,
             Err(PairsFault::NoMemory) => Err(CatFault::NoMemory),
             Err(PairsFault::BadPairs { .. }) => Err(no_map()),
             Ok(runs) => {
-                if !is_table(geometry, runs.runs(), *size, *valid) {
+                if !is_table(geometry, runs.runs(), size, valid) {
                     return Err(no_map());
                 }
-                Ok(MftMap {
-                    runs,
-                    size: *size,
-                    valid: *valid,
-                })
+                Ok(MftMap { runs, size, valid })
             }
         },
     }
 }
 
 /// The map that record 0 gives.
-fn map_of_entry(
+#[tactic(auto, using(crate::proofs::MapLemmas::record_steps))]
+fn map_of_record(
     alloc: Global,
     geometry: &Geometry,
-    entry: &RecordView<'_>,
+    view: &RecordView<'_>,
 ) -> Result<MftMap, CatFault>
     requires { IsGood geometry.now }
-    ensures map { GivesBy shown_map (or_no_map (map_of_entry geometry.now (Some entry.now))) result }
+    ensures gives { Gives cat_origin shown_map (map_of_entry geometry.now view.now) result }
     ensures followed { IfOk result (IsMap geometry.now) }
-    ensures judged { IsJudged result }
+    ensures judged { IsJudged cat_origin result }
 {
-    if first_sought(entry, Sought::List).is_some() {
+    if first_of(view, Wanted::List).is_some() {
         return Err(no_map());
     }
-    match first_sought(entry, Sought::Table) {
+    match first_of(view, Wanted::Table) {
         None => Err(no_map()),
-        Some(first) => map_of(alloc, geometry, &first.body),
+        Some(first) => map_of(alloc, geometry, &first),
     }
 }
 
 /// The map that the bytes of record 0 give, which are unfixed in place.
-fn map_in(alloc: Global, geometry: &Geometry, block: &mut [u8]) -> Result<MftMap, CatFault>
+#[tactic(auto, using(crate::proofs::MapLemmas::slot_steps))]
+fn map_in(alloc: Global, geometry: &Geometry, raw: &mut [u8]) -> Result<MftMap, CatFault>
     requires good { IsGood geometry.now }
-    requires block { HasWholeStrides block.old }
-    ensures map { GivesBy shown_map (or_no_map (map_in geometry.now block.old)) result }
+    requires strides { HasWholeStrides raw.old }
+    ensures gives { Gives cat_origin shown_map (map_in geometry.now raw.old) result }
     ensures followed { IfOk result (IsMap geometry.now) }
-    ensures judged { IsJudged result }
+    ensures judged { IsJudged cat_origin result }
 {
-    if !is_in_use(block) {
-        return Err(no_map());
-    }
-    if unfix(block, Magic::File).is_err() {
-        return Err(no_map());
-    }
-    match parse(block) {
-        Err(_) => Err(no_map()),
-        Ok(entry) => map_of_entry(alloc, geometry, &entry),
+    match slot_in(raw) {
+        SlotView::Sound { view } => map_of_record(alloc, geometry, &view),
+        SlotView::Idle => Err(no_map()),
+        SlotView::Unsound => Err(no_map()),
     }
 }
 
@@ -135,7 +129,7 @@ pub(crate) fn zeros(alloc: Global, count: usize) -> Result<Vec<u8>, AllocError>
 fn place_of(geometry: &Geometry) -> u64
     requires { IsGood geometry.now }
     ensures place { result ≡ geometry.now.mft * geometry.now.cluster }
-    ensures within { result + geometry.now.record_size ≤ volume_bytes geometry.now }
+    ensures within { result + geometry.now.record_size ≤ bytes_of_clusters geometry.now }
 {
     geometry.mft * u64::from(geometry.cluster)
 }
@@ -149,10 +143,10 @@ fn load_map<G: Image>(
 ) -> Result<MftMap, CatFault>
     requires opened { IsOpened (G.seen image.old).size geometry.now }
     requires block { length block.old ≡ geometry.now.record_size }
-    ensures told { IsTrue (G.seen image.old).is_told → GivesBy shown_map (or_no_map (mft_map geometry.now (G.seen image.old).content)) result }
+    ensures gives { IfTold G.Image image.old (λ content.
+        Gives cat_origin shown_map (mft_map geometry.now content) result) }
     ensures followed { IfOk result (IsMap geometry.now) }
-    ensures seen { G.seen image.new ≡ G.seen image.old }
-    ensures cause { OnlyReads (G.faults image.old) (G.faults image.new) result }
+    ensures reads { OnlyReads G.Image cat_origin image.old image.new result }
 {
     image.read_at(place_of(geometry), block)?;
     map_in(alloc, geometry, block)
@@ -165,10 +159,10 @@ pub(crate) fn read_map<G: Image>(
     geometry: &Geometry,
 ) -> Result<MftMap, CatFault>
     requires { IsOpened (G.seen image.old).size geometry.now }
-    ensures told { IsTrue (G.seen image.old).is_told → GivesBy shown_map (or_no_map (mft_map geometry.now (G.seen image.old).content)) result }
+    ensures gives { IfTold G.Image image.old (λ content.
+        Gives cat_origin shown_map (mft_map geometry.now content) result) }
     ensures followed { IfOk result (IsMap geometry.now) }
-    ensures seen { G.seen image.new ≡ G.seen image.old }
-    ensures cause { OnlyReads (G.faults image.old) (G.faults image.new) result }
+    ensures reads { OnlyReads G.Image cat_origin image.old image.new result }
 {
     let mut block = zeros(alloc, geometry.record_size as usize)?;
     load_map(alloc, image, geometry, &mut block)

@@ -1,15 +1,15 @@
 //! The bytes of $MFT, read over its map.
 
-ghost use Rattle.std.specs.Prelude.{◌≡◌, ◌≤◌, ◌<◌, ◌+◌, ◌*◌, ◌-◌, ◌%◌, ◌^◌, slice_index, length, take, drop, slice_range, IsTrue, OnOk};
-ghost use Rattle.ntfs_base.specs.Bytes.{cluster_at, stream};
-ghost use Rattle.ntfs_base.specs.Causes.{ReadCause};
-ghost use Rattle.ntfs_boot.specs.Geometry.{IsGood};
+ghost use Rattle.std.specs.Prelude.{◌≡◌, ◌≤◌, ◌<◌, ◌+◌, ◌*◌, ◌%◌, ◌^◌, Ok, slice_index, length, take, drop};
+ghost use Rattle.ntfs_base.specs.Frames.{Gives, IfTold, OnlyReads};
+ghost use Rattle.ntfs_boot.specs.Geometry.{IsGood, IsOpened};
 ghost use Rattle.ntfs_runs.specs.Clusters.{vcns};
-ghost use Rattle.ntfs_show.specs.MftMap.{clusters_in};
-ghost use Rattle.ntfs_show.specs.Reading.{IsMap, IsOpened};
+ghost use Rattle.ntfs_show.specs.Cat.{cat_origin};
+ghost use Rattle.ntfs_show.specs.MftMap.{IsMap, clusters_in, shown_map, table_bytes};
 
+use crate::cat_fault::CatFault;
 use crate::mft_map::MftMap;
-use ntfs_base::{Failed, Image};
+use ntfs_base::Image;
 use ntfs_boot::Geometry;
 
 impl MftMap {
@@ -35,20 +35,21 @@ fn read_piece<G: Image>(
     map: &MftMap,
     from: u64,
     into: &mut [u8],
-) -> Result<(), Failed>
+) -> Result<(), CatFault>
     requires opened { IsOpened (G.seen image.old).size geometry.now }
     requires followed { IsMap geometry.now map.now }
     requires within { from + length into.old ≤ length (vcns map.now.runs) * geometry.now.cluster }
     requires one { from % geometry.now.cluster + length into.old ≤ geometry.now.cluster }
     requires some { 0 < length into.old }
-    ensures bytes { OnOk result (IsTrue (G.seen image.old).is_told
-        → into.new ≡ take (length into.old) (drop from (stream (cluster_at (G.seen image.old).content geometry.now.cluster) (clusters_in (vcns map.now.runs))))) }
-    ensures seen { G.seen image.new ≡ G.seen image.old }
-    ensures cause { ReadCause (G.faults image.old) (G.faults image.new) result }
+    ensures gives { IfTold G.Image image.old (λ content. Gives cat_origin (λ done. into.new)
+        (Ok (take (length into.old) (drop from (table_bytes geometry.now content (shown_map map.now).clusters))))
+        result) }
+    ensures reads { OnlyReads G.Image cat_origin image.old image.new result }
 {
     let cluster = u64::from(geometry.cluster);
     let lcn = map.cluster_of(geometry, from / cluster);
-    image.read_at(lcn * cluster + from % cluster, into)
+    image.read_at(lcn * cluster + from % cluster, into)?;
+    Ok(())
 }
 
 /// Reads bytes of $MFT from a place on, cluster by cluster.
@@ -58,15 +59,15 @@ pub(crate) fn read_bytes<G: Image>(
     map: &MftMap,
     from: u64,
     block: &mut [u8],
-) -> Result<(), Failed>
+) -> Result<(), CatFault>
     requires opened { IsOpened (G.seen image.old).size geometry.now }
     requires followed { IsMap geometry.now map.now }
     requires within { from + length block.old ≤ length (vcns map.now.runs) * geometry.now.cluster }
     requires place { from + length block.old < 2 ^ 64 }
-    ensures bytes { OnOk result (IsTrue (G.seen image.old).is_told
-        → block.new ≡ take (length block.old) (drop from (stream (cluster_at (G.seen image.old).content geometry.now.cluster) (clusters_in (vcns map.now.runs))))) }
-    ensures seen { G.seen image.new ≡ G.seen image.old }
-    ensures cause { ReadCause (G.faults image.old) (G.faults image.new) result }
+    ensures gives { IfTold G.Image image.old (λ content. Gives cat_origin (λ done. block.new)
+        (Ok (take (length block.old) (drop from (table_bytes geometry.now content (shown_map map.now).clusters))))
+        result) }
+    ensures reads { OnlyReads G.Image cat_origin image.old image.new result }
 {
     let mut done = 0;
     'pieces: while done < block.len() {

@@ -1,48 +1,67 @@
 //! File records by their number.
 
-ghost use Rattle.std.specs.Prelude.{◌≡◌, ◌≤◌, length, OnOk, IfErr, IsTrue, Ok, Err};
+ghost use Rattle.std.specs.Prelude.{◌≡◌, ◌≤◌, length};
+ghost use Rattle.std.specs.Option.{ok_or};
+ghost use Rattle.ntfs_base.specs.Frames.{Gives, IfTold, OnlyReads};
+ghost use Rattle.ntfs_boot.specs.Geometry.{IsOpened};
 ghost use Rattle.ntfs_fixup.specs.Fixups.{HasWholeStrides};
-ghost use Rattle.ntfs_show.specs.Cat.{IsJudged, IsSettledFault, OnlyReads};
-ghost use Rattle.ntfs_show.specs.Records.{is_in_use};
-ghost use Rattle.ntfs_show.specs.MftMap.{record_bytes};
-ghost use Rattle.ntfs_show.specs.Reading.{IsMap, IsOpened, block_of, live_block, shown_map};
+ghost use Rattle.ntfs_show.specs.Cat.{cat_origin};
+ghost use Rattle.ntfs_show.specs.MftMap.{IsMap, raw_record, shown_map};
+ghost use Rattle.ntfs_show.specs.Records.{IsViewOf, is_in_use};
 
-use crate::cat_fault::{CatFault, damaged};
+use crate::cat_fault::CatFault;
 use crate::mft_map::MftMap;
 use crate::pieces::read_bytes;
-use ntfs_base::{Image, Missing, Rule};
+use ntfs_base::{Image, Missing};
 use ntfs_boot::Geometry;
 use ntfs_fixup::{Magic, unfix};
+use ntfs_record::{RecordView, parse};
+
+/// A record of $MFT in place.
+#[derive(Drop)]
+pub(crate) enum SlotView<'a> {
+    /// It isn't in use.
+    Idle,
+    /// It doesn't unfix, or something is wrong with it.
+    Unsound,
+    Sound { view: RecordView<'a> },
+}
 
 /// The bytes begin with `FILE` and have the flag of a record in use.
 #[tactic(auto, unfolding(crate::specs::Records::is_in_use))]
-pub(crate) fn is_in_use(block: &[u8]) -> bool
-    requires { 0x18 ≤ length block.now }
-    ensures { result ≡ is_in_use block.now }
+fn is_in_use(raw: &[u8]) -> bool
+    requires { 0x18 ≤ length raw.now }
+    ensures { result ≡ is_in_use raw.now }
 {
-    block.starts_with(b"FILE") && block[0x16] % 2 == 1
+    raw.starts_with(b"FILE") && raw[0x16] % 2 == 1
 }
 
-/// Unfixes the bytes of a record of this number that is in use.
-#[tactic(auto, unfolding(crate::specs::Reading::live_block))]
-pub(crate) fn unfix_live(block: &mut [u8], number: u64) -> Result<(), CatFault>
-    requires { HasWholeStrides block.old }
-    ensures unfixed { OnOk result (live_block number block.old ≡ Ok block.new) }
-    ensures refusal { IfErr result (λ fault. live_block number block.old ≡ Err fault) }
-    ensures judged { IsJudged result }
+/// A view of the record of these bytes, which are unfixed in place.
+pub(crate) fn slot_in<'a>(raw: &'a mut [u8]) -> SlotView<'a>
+    requires { HasWholeStrides raw.old }
+    ensures { IsViewOf raw.old result }
 {
-    if !is_in_use(block) {
-        return Err(CatFault::NotFound {
-            what: Missing::Record { number },
-        });
+    if !is_in_use(raw) {
+        return SlotView::Idle;
     }
-    if unfix(block, Magic::File).is_err() {
-        return Err(damaged(Rule::C4, number));
+    if unfix(raw, Magic::File).is_err() {
+        return SlotView::Unsound;
     }
-    Ok(())
+    match parse(raw) {
+        Err(_) => SlotView::Unsound,
+        Ok(view) => SlotView::Sound { view },
+    }
 }
 
-/// Reads the bytes of the record of a number, and unfixes them where it is in use.
+pub(crate) fn no_record(number: u64) -> CatFault
+    ensures { result ≡ CatFault.NotFound (Missing.Record number) }
+{
+    CatFault::NotFound {
+        what: Missing::Record { number },
+    }
+}
+
+/// Reads the bytes of the record of a number.
 pub(crate) fn read_record<G: Image>(
     image: &mut G,
     geometry: &Geometry,
@@ -53,19 +72,14 @@ pub(crate) fn read_record<G: Image>(
     requires opened { IsOpened (G.seen image.old).size geometry.now }
     requires followed { IsMap geometry.now map.now }
     requires block { length block.old ≡ geometry.now.record_size }
-    ensures unfixed { OnOk result (IsTrue (G.seen image.old).is_told
-        → block_of number (record_bytes geometry.now (shown_map map.now) (G.seen image.old).content number) ≡ Ok block.new) }
-    ensures refusal { IfErr result (λ fault. IsTrue (G.seen image.old).is_told → IsSettledFault fault
-        → block_of number (record_bytes geometry.now (shown_map map.now) (G.seen image.old).content number) ≡ Err fault) }
-    ensures seen { G.seen image.new ≡ G.seen image.old }
-    ensures cause { OnlyReads (G.faults image.old) (G.faults image.new) result }
+    ensures gives { IfTold G.Image image.old (λ content. Gives cat_origin (λ done. block.new)
+        (ok_or (raw_record geometry.now (shown_map map.now) content number) (CatFault.NotFound (Missing.Record number)))
+        result) }
+    ensures reads { OnlyReads G.Image cat_origin image.old image.new result }
 {
     let size = u64::from(geometry.record_size);
     if number >= map.valid / size {
-        return Err(CatFault::NotFound {
-            what: Missing::Record { number },
-        });
+        return Err(no_record(number));
     }
-    read_bytes(image, geometry, map, number * size, block)?;
-    unfix_live(block, number)
+    read_bytes(image, geometry, map, number * size, block)
 }

@@ -1,42 +1,40 @@
 //! The bytes of a stream, put piece by piece.
 
-ghost use Rattle.std.specs.Prelude.{◌≡◌, ◌≤◌, ◌<◌, ◌+◌, ◌*◌, ◌-◌, ◌++◌, true, length, take, replicate, IsTrue, IfErr, IfSome, IfOk, OnOk};
+ghost use Rattle.std.specs.Prelude.{◌≡◌, ◌≤◌, ◌<◌, ◌+◌, ◌*◌, ◌-◌, ◌++◌, Ok, true, length, take, replicate, IfSome, OnOk};
 ghost use Rattle.std.specs.Option.{option_map};
 ghost use Rattle.ntfs_base.specs.Bytes.{cluster_at};
-ghost use Rattle.ntfs_base.specs.Causes.{ReadCause};
-ghost use Rattle.ntfs_base.specs.Sink.{Put};
+ghost use Rattle.ntfs_base.specs.Frames.{Copies, Gives, IfTold, OnlyReads, Puts};
+ghost use Rattle.ntfs_boot.specs.Geometry.{IsOpened};
 ghost use Rattle.ntfs_runs.specs.Clusters.{behind, row, vcns};
-ghost use Rattle.ntfs_show.specs.Cat.{HasCatCause, IsCutOff, filled};
+ghost use Rattle.ntfs_show.specs.Cat.{cat_origin, filled_stream};
 ghost use Rattle.ntfs_show.specs.Cells.{are_cells, map_cells};
+ghost use Rattle.ntfs_show.specs.Gather.{IsReadable, shown_stream};
 ghost use Rattle.ntfs_show.specs.Putting.{IsLeftBehind};
-ghost use Rattle.ntfs_show.specs.Reading.{IsOpened, IsReadable, shown_stream};
-ghost use Rattle.ntfs_show.specs.StreamBytes.{pieces, shown_cell, stream_bytes};
+ghost use Rattle.ntfs_show.specs.StreamBytes.{HasNoBytes, pieces, shown_cell, stream_bytes};
 
 use crate::cat_fault::CatFault;
-use crate::extents::Gathered;
+use crate::extents::Stream;
 use crate::mft_map::zeros;
-use ntfs_base::{Failed, Image, Sink};
+use ntfs_base::{Image, Sink};
 use ntfs_boot::Geometry;
 use ntfs_runs::Run;
 use std::alloc::Global;
 
-/// How many bytes of a stream are left to put, and how many of them are initialised.
+/// How many bytes of a stream remain to be put, and how many of them are initialised.
 #[derive(Clone, Copy)]
-struct Left {
+struct Remaining {
     size: u64,
     valid: u64,
 }
 
-impl Left {
-    /// What is left after a cluster's bytes.
-    fn after(self, cluster: u64) -> Left
-        ensures size { result.size ≡ self.size - cluster }
-        ensures valid { result.valid ≡ self.valid - cluster }
+impl Remaining {
+    /// A cluster's bytes were put.
+    fn advance(&mut self, cluster: u64)
+        ensures size { self.new.size ≡ self.old.size - cluster }
+        ensures valid { self.new.valid ≡ self.old.valid - cluster }
     {
-        Left {
-            size: self.size.saturating_sub(cluster),
-            valid: self.valid.saturating_sub(cluster),
-        }
+        self.size = self.size.saturating_sub(cluster);
+        self.valid = self.valid.saturating_sub(cluster);
     }
 }
 
@@ -59,21 +57,23 @@ fn clear(buffer: &mut [u8], from: usize)
     buffer[from..].fill(0);
 }
 
-/// Reads a cell of which so many bytes are initialised: a hole, and what isn't initialised, is zeros.
+/// Reads a cell of which so many bytes are initialised: a hole, and what isn't initialised, is zeros. A hole, and a cell
+/// of which nothing is initialised, is never read.
 fn read_cell<G: Image>(
     image: &mut G,
     geometry: &Geometry,
     cell: Option<u64>,
     valid: u64,
     buffer: &mut [u8],
-) -> Result<(), Failed>
+) -> Result<(), CatFault>
     requires opened { IsOpened (G.seen image.old).size geometry.now }
     requires cell { IfSome cell (λ lcn. lcn < geometry.now.clusters) }
     requires buffer { length buffer.old ≡ geometry.now.cluster }
-    ensures bytes { OnOk result (IsTrue (G.seen image.old).is_told
-        → buffer.new ≡ shown_cell geometry.now.cluster valid (option_map (cluster_at (G.seen image.old).content geometry.now.cluster) cell)) }
-    ensures seen { G.seen image.new ≡ G.seen image.old }
-    ensures cause { ReadCause (G.faults image.old) (G.faults image.new) result }
+    ensures gives { IfTold G.Image image.old (λ content. Gives cat_origin (λ done. buffer.new)
+        (Ok (shown_cell geometry.now.cluster valid (option_map (cluster_at content geometry.now.cluster) cell)))
+        result) }
+    ensures unread { HasNoBytes cell valid → image.new ≡ image.old }
+    ensures reads { OnlyReads G.Image cat_origin image.old image.new result }
 {
     let Some(lcn) = cell else {
         clear(buffer, 0);
@@ -89,39 +89,37 @@ fn read_cell<G: Image>(
     Ok(())
 }
 
-/// Puts the bytes of a run as far as bytes of the stream are left, and answers what is left behind it.
+/// Puts the bytes of a run as far as bytes of the stream remain.
 fn put_run<G: Image, K: Sink>(
     image: &mut G,
     geometry: &Geometry,
     run: &Run,
-    left: Left,
+    rest: &mut Remaining,
     buffer: &mut [u8],
     out: &mut K,
-) -> Result<Left, CatFault>
+) -> Result<(), CatFault>
     requires opened { IsOpened (G.seen image.old).size geometry.now }
     requires cells { are_cells true geometry.now.clusters (row run.now.length run.now.lcn) ≡ true }
     requires buffer { length buffer.old ≡ geometry.now.cluster }
-    requires left { left.valid ≤ left.size }
-    ensures put { IsTrue (G.seen image.old).is_told
-        → Put (pieces geometry.now.cluster left.size left.valid (map_cells (cluster_at (G.seen image.old).content geometry.now.cluster) (row run.now.length run.now.lcn)))
-        (K.seen out.old) result (K.seen out.new) }
-    ensures left { IfOk result (IsLeftBehind geometry.now.cluster run.now.length left) }
-    ensures cut { IfErr result IsCutOff }
-    ensures seen { G.seen image.new ≡ G.seen image.old }
-    ensures cause { HasCatCause (G.faults image.old) (G.faults image.new) (K.faults out.old) (K.faults out.new) result }
+    requires rest { rest.old.valid ≤ rest.old.size }
+    ensures told { IfTold G.Image image.old (λ content. Puts cat_origin
+        (Ok (pieces geometry.now.cluster rest.old.size rest.old.valid
+        (map_cells (cluster_at content geometry.now.cluster) (row run.now.length run.now.lcn))))
+        (K.seen out.old) result (K.seen out.new)) }
+    ensures rest { OnOk result (IsLeftBehind geometry.now.cluster run.now.length rest.old rest.new) }
+    ensures copies { Copies G.Image K.Sink cat_origin image.old image.new out.old out.new result }
 {
     let cluster = u64::from(geometry.cluster);
-    let mut rest = left;
     let mut cell = run.lcn;
     let mut count = run.length;
     'cells: while count > 0 && rest.size > 0 {
         read_cell(image, geometry, cell, rest.valid, buffer)?;
         out.put(&buffer[..rest.size.min(cluster) as usize])?;
-        rest = rest.after(cluster);
+        rest.advance(cluster);
         cell = next_cell(cell, geometry.clusters);
         count -= 1;
     }
-    Ok(rest)
+    Ok(())
 }
 
 /// Puts the bytes of a stream's runs by way of a buffer of one cluster.
@@ -129,24 +127,22 @@ fn put_cells<G: Image, K: Sink>(
     image: &mut G,
     geometry: &Geometry,
     runs: &[Run],
-    left: Left,
+    rest: &mut Remaining,
     buffer: &mut [u8],
     out: &mut K,
 ) -> Result<(), CatFault>
     requires opened { IsOpened (G.seen image.old).size geometry.now }
     requires cells { are_cells true geometry.now.clusters (vcns runs.now) ≡ true }
     requires buffer { length buffer.old ≡ geometry.now.cluster }
-    requires left { left.valid ≤ left.size }
-    ensures put { IsTrue (G.seen image.old).is_told
-        → Put (pieces geometry.now.cluster left.size left.valid (map_cells (cluster_at (G.seen image.old).content geometry.now.cluster) (vcns runs.now)))
-        (K.seen out.old) result (K.seen out.new) }
-    ensures cut { IfErr result IsCutOff }
-    ensures seen { G.seen image.new ≡ G.seen image.old }
-    ensures cause { HasCatCause (G.faults image.old) (G.faults image.new) (K.faults out.old) (K.faults out.new) result }
+    requires rest { rest.old.valid ≤ rest.old.size }
+    ensures told { IfTold G.Image image.old (λ content. Puts cat_origin
+        (Ok (pieces geometry.now.cluster rest.old.size rest.old.valid
+        (map_cells (cluster_at content geometry.now.cluster) (vcns runs.now))))
+        (K.seen out.old) result (K.seen out.new)) }
+    ensures copies { Copies G.Image K.Sink cat_origin image.old image.new out.old out.new result }
 {
-    let mut rest = left;
     'runs: for run in runs {
-        rest = put_run(image, geometry, run, rest, buffer, out)?;
+        put_run(image, geometry, run, rest, buffer, out)?;
     }
     Ok(())
 }
@@ -156,31 +152,30 @@ pub(crate) fn put_stream<G: Image, K: Sink>(
     alloc: Global,
     image: &mut G,
     geometry: &Geometry,
-    stream: &Gathered<'_>,
+    stream: &Stream<'_>,
     out: &mut K,
 ) -> Result<(), CatFault>
     requires opened { IsOpened (G.seen image.old).size geometry.now }
     requires readable { IsReadable geometry.now stream.now }
-    ensures put { IsTrue (G.seen image.old).is_told
-        → Put (stream_bytes geometry.now.cluster (filled geometry.now (G.seen image.old).content (shown_stream stream.now))) (K.seen out.old) result (K.seen out.new) }
-    ensures cut { IfErr result IsCutOff }
-    ensures seen { G.seen image.new ≡ G.seen image.old }
-    ensures cause { HasCatCause (G.faults image.old) (G.faults image.new) (K.faults out.old) (K.faults out.new) result }
+    ensures told { IfTold G.Image image.old (λ content. Puts cat_origin
+        (Ok (stream_bytes geometry.now.cluster (filled_stream geometry.now content (shown_stream stream.now))))
+        (K.seen out.old) result (K.seen out.new)) }
+    ensures copies { Copies G.Image K.Sink cat_origin image.old image.new out.old out.new result }
 {
     match stream {
-        Gathered::Value { value, .. } => Ok(out.put(value)?),
-        Gathered::Runs {
+        Stream::Value { value, .. } => Ok(out.put(value)?),
+        Stream::Runs {
             size,
             valid,
             runs,
             ..
         } => {
             let mut buffer = zeros(alloc, geometry.cluster as usize)?;
-            let left = Left {
+            let mut rest = Remaining {
                 size: *size,
                 valid: *valid,
             };
-            put_cells(image, geometry, runs.runs(), left, &mut buffer, out)
+            put_cells(image, geometry, runs.runs(), &mut rest, &mut buffer, out)
         }
     }
 }

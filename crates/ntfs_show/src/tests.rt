@@ -117,6 +117,15 @@ const TWO: Runs<'static> = Runs {
     pairs: &[0x11, 0x01, 0x32, 0x11, 0x01, 0xFF, 0x00],
 };
 
+/// A hole of one cluster, and then cluster 50, of a sparse stream.
+const HOLE: Runs<'static> = Runs {
+    flags: 0x8000,
+    size: 2000,
+    valid: 1100,
+    pairs: &[0x01, 0x01, 0x11, 0x01, 0x32, 0x00],
+    ..TWO
+};
+
 /// Byte i of cluster k, where it isn't a record's.
 fn byte_of(k: usize, i: usize) -> u8
     requires k { k < 64 }
@@ -264,20 +273,33 @@ fn holes_and_empty_streams_are_put(rt: HostRuntime) -> Result<(), Fail> {
     let (result, put) = answer(alloc, with_stream(alloc, empty)?, 20);
     assert_eq!(rt; result, Ok(()));
     assert_eq!(rt; put.len(), 0);
-    // A hole of one cluster, and then cluster 50, of a sparse stream.
-    let hole = Runs {
-        flags: 0x8000,
-        size: 2000,
-        valid: 1100,
-        pairs: &[0x01, 0x01, 0x11, 0x01, 0x32, 0x00],
-        ..TWO
-    };
-    let (result, put) = answer(alloc, with_stream(alloc, hole)?, 20);
+    let (result, put) = answer(alloc, with_stream(alloc, HOLE)?, 20);
     let mut want = Vec::new(alloc);
     push(&mut want, 50, 0, 1024)?;
     push(&mut want, 50, 76, 900)?;
     assert_eq!(rt; result, Ok(()));
     assert_eq!(rt; put.as_slice(), want.as_slice());
+    Ok(())
+}
+
+#[test]
+fn a_hole_and_what_is_not_initialised_are_never_read(rt: HostRuntime) -> Result<(), Fail> {
+    let alloc = rt.alloc();
+    // The boot sector and two records are read, and then clusters; the read behind them would fail.
+    let cases = [
+        (HOLE, 4),
+        (TWO, 5),
+        (Runs { valid: 1024, ..TWO }, 4),
+        (Runs { valid: 0, ..TWO }, 3),
+    ];
+    for (told, reads) in cases {
+        let mut image = MemImage::new(alloc, with_stream(alloc, told)?);
+        image.inside.calls.fail(reads + 1, Leaves::Before)?;
+        let mut out = MemSink::new(alloc);
+        assert_eq!(rt; cat(alloc, &mut image, 20, &mut out), Ok(()));
+        assert_eq!(rt; image.inside.calls.made, reads);
+        assert_eq!(rt; out.content.len() as u64, told.size);
+    }
     Ok(())
 }
 
