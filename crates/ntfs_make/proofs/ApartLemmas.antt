@@ -1,58 +1,59 @@
--- No two pieces of the volume share a byte.
+-- No two areas of the volume share a byte, nor does one with the copy of the boot sector.
 use Rattle.std.proofs.Common.{◌≡◌, ◌≤◌, ◌+◌, ◌-◌, ◌*◌, ◌/◌, ◌%◌, ◌==◌, ◌⊎◌, inl, inr, ℕ, Bool, true, false, cond, List, [], ◌∷◌, ◌++◌, length, take, drop, map, sym, ap, ◌∙◌, arith}
 use Rattle.std.proofs.Math.Nat.{mul-le-mul_right, mul_comm, mul_assoc, add-mul}
 use Rattle.ntfs_make.specs.declared.shape.Shape.{Shape}
-use Rattle.ntfs_make.specs.declared.table.Part.{Part}
-use Rattle.ntfs_make.specs.declared.table.Placed.{Placed}
+use Rattle.ntfs_make.specs.declared.table.AreaRow.{AreaRow}
+use Rattle.ntfs_make.specs.declared.table.Area.{Area}
 use Rattle.ntfs_make.specs.Shape.{IsShape, shape_of, sectors}
-use Rattle.ntfs_make.specs.Parts.{parts, length_of, placed_at, up, down, placed}
-use Rattle.ntfs_make.specs.Contents.{content_of}
+use Rattle.ntfs_make.specs.Areas.{area_rows, cluster_count, area_from, areas_up, areas_down, areas_of}
+use Rattle.ntfs_make.specs.Streams.{area_bytes}
 use Rattle.ntfs_base.specs.Writes.{IsApart, IsApartFrom, AreApart}
-use Rattle.ntfs_make.specs.Made.{part_write, copy_write, writes_of, made_writes, IsWithin}
+use Rattle.ntfs_make.specs.Volume.{area_write, copy_write, shape_writes, volume_writes, LiesInVolume}
 use Rattle.ntfs_make.proofs.ShapeLemmas.{bounds}
-use Rattle.ntfs_make.proofs.PlacedLemmas.{AllPlaced, all-placed, total, total-fits}
+use Rattle.ntfs_make.proofs.AreaLemmas.{AllAreas, all-lie, total, total-fits}
+use Rattle.ntfs_make.proofs.LawLemmas.{area-fits}
 
--- clusters of which one part ends before the other begins
-abbrev pub Split : Placed → Placed → Type 0
+-- areas of which one ends before the other begins
+abbrev pub Split : Area → Area → Type 0
 Split p q = (p.start + p.length ≤ q.start) ⊎ (q.start + q.length ≤ p.start)
 
-abbrev pub AllSplit : List Placed → Type 0
+abbrev pub AllSplit : List Area → Type 0
 AllSplit [] = Unit {0}
-AllSplit (p ∷ ps) = AllPlaced (Split p) ps × AllSplit ps
+AllSplit (p ∷ ps) = AllAreas (Split p) ps × AllSplit ps
 
--- parts that go up begin behind the place before
-up-split : (shape : Shape) (p : Placed) (start : ℕ) (ps : List Part) → p.start + p.length ≤ start → AllPlaced (Split p) (up shape start ps)
+-- areas that go up begin behind the place before
+up-split : (shape : Shape) (p : Area) (start : ℕ) (ps : List AreaRow) → p.start + p.length ≤ start → AllAreas (Split p) (areas_up shape start ps)
 up-split shape p start [] before = tt
-up-split shape p start (q ∷ qs) before = (inl before, up-split shape p (start + (length_of shape q.length + 1)) qs (omega arith))
+up-split shape p start (q ∷ qs) before = (inl before, up-split shape p (start + (cluster_count shape q.length + 1)) qs (omega arith))
 
-up-all : (shape : Shape) (start : ℕ) (ps : List Part) → AllSplit (up shape start ps)
+up-all : (shape : Shape) (start : ℕ) (ps : List AreaRow) → AllSplit (areas_up shape start ps)
 up-all shape start [] = tt
-up-all shape start (q ∷ qs) = (up-split shape (placed_at shape start q) (start + (length_of shape q.length + 1)) qs (omega arith), up-all shape (start + (length_of shape q.length + 1)) qs)
+up-all shape start (q ∷ qs) = (up-split shape (area_from shape start q) (start + (cluster_count shape q.length + 1)) qs (omega arith), up-all shape (start + (cluster_count shape q.length + 1)) qs)
 
--- parts that go down end before the place behind
-down-split : (shape : Shape) (p : Placed) (bound : ℕ) (ps : List Part) → total shape ps ≤ bound → bound ≤ p.start → AllPlaced (Split p) (down shape bound ps)
+-- areas that go down end before the place behind
+down-split : (shape : Shape) (p : Area) (bound : ℕ) (ps : List AreaRow) → total shape ps ≤ bound → bound ≤ p.start → AllAreas (Split p) (areas_down shape bound ps)
 down-split shape p bound [] room behind = tt
-down-split shape p bound (q ∷ qs) room behind = (inr (omega arith), down-split shape p (bound - (length_of shape q.length + 1)) qs (omega arith) (omega arith))
+down-split shape p bound (q ∷ qs) room behind = (inr (omega arith), down-split shape p (bound - (cluster_count shape q.length + 1)) qs (omega arith) (omega arith))
 
-down-all : (shape : Shape) (bound : ℕ) (ps : List Part) → total shape ps ≤ bound → AllSplit (down shape bound ps)
+down-all : (shape : Shape) (bound : ℕ) (ps : List AreaRow) → total shape ps ≤ bound → AllSplit (areas_down shape bound ps)
 down-all shape bound [] room = tt
-down-all shape bound (q ∷ qs) room = (down-split shape (placed_at shape (bound - (length_of shape q.length + 1)) q) (bound - (length_of shape q.length + 1)) qs (omega arith) (omega arith), down-all shape (bound - (length_of shape q.length + 1)) qs (omega arith))
+down-all shape bound (q ∷ qs) room = (down-split shape (area_from shape (bound - (cluster_count shape q.length + 1)) q) (bound - (cluster_count shape q.length + 1)) qs (omega arith) (omega arith), down-all shape (bound - (cluster_count shape q.length + 1)) qs (omega arith))
 
 -- and begin behind what lies below all of them
-down-above : (shape : Shape) (p : Placed) (bound : ℕ) (ps : List Part) → p.start + p.length + total shape ps ≤ bound → AllPlaced (Split p) (down shape bound ps)
+down-above : (shape : Shape) (p : Area) (bound : ℕ) (ps : List AreaRow) → p.start + p.length + total shape ps ≤ bound → AllAreas (Split p) (areas_down shape bound ps)
 down-above shape p bound [] room = tt
-down-above shape p bound (q ∷ qs) room = (inl (omega arith), down-above shape p (bound - (length_of shape q.length + 1)) qs (omega arith))
+down-above shape p bound (q ∷ qs) room = (inl (omega arith), down-above shape p (bound - (cluster_count shape q.length + 1)) qs (omega arith))
 
-first-then-down : (shape : Shape) (ps : List Part) → total shape ps ≤ shape.clusters + 1 → AllSplit (up shape 0 (take 1 ps) ++ down shape (shape.clusters + 1) (drop 1 ps))
+first-then-down : (shape : Shape) (ps : List AreaRow) → total shape ps ≤ shape.clusters + 1 → AllSplit (areas_up shape 0 (take 1 ps) ++ areas_down shape (shape.clusters + 1) (drop 1 ps))
 first-then-down shape [] room = tt
-first-then-down shape (p ∷ ps) room = (down-above shape (placed_at shape 0 p) (shape.clusters + 1) ps (omega arith), down-all shape (shape.clusters + 1) ps (omega arith))
+first-then-down shape (p ∷ ps) room = (down-above shape (area_from shape 0 p) (shape.clusters + 1) ps (omega arith), down-all shape (shape.clusters + 1) ps (omega arith))
 
-either-split : (shape : Shape) → IsShape shape → (t : Bool) → AllSplit (cond t (up shape 0 parts) (up shape 0 (take 1 parts) ++ down shape (shape.clusters + 1) (drop 1 parts)))
-either-split shape is true = up-all shape 0 parts
-either-split shape is false = first-then-down shape parts (total-fits shape is)
+either-split : (shape : Shape) → IsShape shape → (t : Bool) → AllSplit (cond t (areas_up shape 0 area_rows) (areas_up shape 0 (take 1 area_rows) ++ areas_down shape (shape.clusters + 1) (drop 1 area_rows)))
+either-split shape is true = up-all shape 0 area_rows
+either-split shape is false = first-then-down shape area_rows (total-fits shape is)
 
-all-split : (shape : Shape) → IsShape shape → AllSplit (placed shape)
-unfolding placed
+all-split : (shape : Shape) → IsShape shape → AllSplit (areas_of shape)
+unfolding areas_of
 all-split shape is = either-split shape is (shape.seed / 2 % 2 == 0)
 
 -- bytes of clusters that are apart
@@ -62,9 +63,9 @@ bytes-before c start count next size before fits =
     let both = add-mul start count c in
     omega arith
 
-split-bytes : (shape : Shape) (all : List Placed) (p q : Placed) → IsWithin shape all p → IsWithin shape all q → Split p q → IsApart (part_write shape all p) (part_write shape all q)
-split-bytes shape all p q here there (inl before) = inl (bytes-before shape.cluster p.start p.length q.start (length (content_of shape all p)) before here.content)
-split-bytes shape all p q here there (inr behind) = inr (bytes-before shape.cluster q.start q.length p.start (length (content_of shape all q)) behind there.content)
+split-bytes : (shape : Shape) (p q : Area) → LiesInVolume shape p → LiesInVolume shape q → Split p q → IsApart (area_write shape p) (area_write shape q)
+split-bytes shape p q here there (inl before) = inl (bytes-before shape.cluster p.start p.length q.start (length (area_bytes shape p)) before (area-fits shape p))
+split-bytes shape p q here there (inr behind) = inr (bytes-before shape.cluster q.start q.length p.start (length (area_bytes shape q)) behind (area-fits shape q))
 
 -- the copy lies behind all clusters
 sectors-least : (t : Bool) (n k c : ℕ) → 512 * k ≡ c → n * c ≤ (n * k + cond t (k - 1) 0) * 512
@@ -79,22 +80,22 @@ sectors-behind : (shape : Shape) → IsShape shape → shape.clusters * shape.cl
 unfolding sectors
 sectors-behind shape is = let b = bounds shape is in sectors-least (shape.seed % 2 == 1) shape.clusters (shape.cluster / 512) shape.cluster b.sectors
 
-copy-apart : (shape : Shape) (all : List Placed) (p : Placed) → IsShape shape → IsWithin shape all p → IsApart (part_write shape all p) (copy_write shape all)
-copy-apart shape all p is here =
-    let end = bytes-before shape.cluster p.start p.length shape.clusters (length (content_of shape all p)) here.clusters here.content in
+copy-apart : (shape : Shape) (p : Area) → IsShape shape → LiesInVolume shape p → IsApart (area_write shape p) (copy_write shape)
+copy-apart shape p is here =
+    let end = bytes-before shape.cluster p.start p.length shape.clusters (length (area_bytes shape p)) here.clusters (area-fits shape p) in
     let behind = sectors-behind shape is in
     inl (omega arith)
 
-apart-from : (shape : Shape) (all ps : List Placed) (p : Placed) → IsShape shape → IsWithin shape all p → AllPlaced (IsWithin shape all) ps → AllPlaced (Split p) ps → IsApartFrom (part_write shape all p) (map (part_write shape all) ps ++ copy_write shape all ∷ [])
-apart-from shape all [] p is here within split = (copy-apart shape all p is here, tt)
-apart-from shape all (q ∷ qs) p is here within split = (split-bytes shape all p q here within.0 split.0, apart-from shape all qs p is here within.1 split.1)
+apart-from : (shape : Shape) (ps : List Area) (p : Area) → IsShape shape → LiesInVolume shape p → AllAreas (LiesInVolume shape) ps → AllAreas (Split p) ps → IsApartFrom (area_write shape p) (map (area_write shape) ps ++ copy_write shape ∷ [])
+apart-from shape [] p is here within split = (copy-apart shape p is here, tt)
+apart-from shape (q ∷ qs) p is here within split = (split-bytes shape p q here within.0 split.0, apart-from shape qs p is here within.1 split.1)
 
-all-apart : (shape : Shape) (all ps : List Placed) → IsShape shape → AllPlaced (IsWithin shape all) ps → AllSplit ps → AreApart (map (part_write shape all) ps ++ copy_write shape all ∷ [])
-all-apart shape all [] is within split = (tt, tt)
-all-apart shape all (p ∷ ps) is within split = (apart-from shape all ps p is within.0 within.1 split.0, all-apart shape all ps is within.1 split.1)
+all-apart : (shape : Shape) (ps : List Area) → IsShape shape → AllAreas (LiesInVolume shape) ps → AllSplit ps → AreApart (map (area_write shape) ps ++ copy_write shape ∷ [])
+all-apart shape [] is within split = (tt, tt)
+all-apart shape (p ∷ ps) is within split = (apart-from shape ps p is within.0 within.1 split.0, all-apart shape ps is within.1 split.1)
 
-pub pieces-apart : (seed clusters cluster : ℕ) → IsShape (shape_of seed clusters cluster) → AreApart (made_writes seed clusters cluster)
-unfolding made_writes writes_of
-pieces-apart seed clusters cluster is =
+pub areas-apart : (seed clusters cluster : ℕ) → IsShape (shape_of seed clusters cluster) → AreApart (volume_writes seed clusters cluster)
+unfolding volume_writes shape_writes
+areas-apart seed clusters cluster is =
     let shape = shape_of seed clusters cluster in
-    all-apart shape (placed shape) (placed shape) is (all-placed shape (placed shape) is) (all-split shape is)
+    all-apart shape (areas_of shape) is (all-lie shape is) (all-split shape is)

@@ -2,25 +2,25 @@
 use Rattle.std.proofs.Common.{IsTrue, IsFalse, not, ◌≡◌, ◌≢◌, ◌≤◌, ◌<◌, ◌+◌, ◌==◌, ℕ, Bool, true, false, List, nat_le, refl, sym, ap, ◌∙◌, arith}
 use Rattle.std.proofs.lemmas.Bool.Decides.{nat_tests}
 use Rattle.ntfs_make.specs.declared.shape.Shape.{Shape}
-use Rattle.ntfs_make.specs.declared.table.Placed.{Placed}
+use Rattle.ntfs_make.specs.Areas.{areas_of}
 use Rattle.ntfs_make.specs.Shape.{bad_cluster}
-use Rattle.ntfs_make.specs.Contents.{has_part, bit_of, byte_of}
+use Rattle.ntfs_make.specs.Streams.{has_area, bit_of, byte_of}
 
 -- a cluster that is free
-free-bit : (shape : Shape) (placed : List Placed) (cluster : ℕ) → cluster < shape.clusters → cluster ≢ bad_cluster shape.clusters → has_part placed cluster ≡ false → bit_of shape placed cluster ≡ 0
+free-bit : (shape : Shape) (cluster : ℕ) → cluster < shape.clusters → cluster ≢ bad_cluster shape.clusters → has_area (areas_of shape) cluster ≡ false → bit_of shape cluster ≡ 0
 unfolding bit_of
-free-bit shape placed cluster below other free =
+free-bit shape cluster below other free =
     let inside : nat_le shape.clusters cluster ≡ false = grind (arith, nat_tests) in
     let sound : cluster == bad_cluster shape.clusters ≡ false = grind (arith, nat_tests) in
     rw (inside, sound, free) refl
 
 -- eight free clusters
-pub free-byte : (shape : Shape) (placed : List Placed) (first : ℕ) → first + 8 ≤ shape.clusters → ((i : ℕ) → i < 8 → first + i ≢ bad_cluster shape.clusters) → ((i : ℕ) → i < 8 → has_part placed (first + i) ≡ false) → byte_of shape placed first ≡ 0
+pub free-byte : (shape : Shape) (first : ℕ) → first + 8 ≤ shape.clusters → ((i : ℕ) → i < 8 → first + i ≢ bad_cluster shape.clusters) → ((i : ℕ) → i < 8 → has_area (areas_of shape) (first + i) ≡ false) → byte_of shape first ≡ 0
 unfolding byte_of
-free-byte shape placed first below other free =
+free-byte shape first below other free =
     let here : first + 0 ≡ first = omega arith in
-    let at = λ (i : ℕ) (h : i < 8). free-bit shape placed (first + i) (omega arith) (other i h) (free i h) in
-    let b0 = ap (bit_of shape placed) (sym here) ∙ at 0 (omega arith) in
+    let at = λ (i : ℕ) (h : i < 8). free-bit shape (first + i) (omega arith) (other i h) (free i h) in
+    let b0 = ap (bit_of shape) (sym here) ∙ at 0 (omega arith) in
     let b1 = at 1 (omega arith) in
     let b2 = at 2 (omega arith) in
     let b3 = at 3 (omega arith) in

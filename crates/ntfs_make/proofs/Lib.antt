@@ -4,8 +4,11 @@ pub mod ShapeLemmas
 pub mod BlockLemmas
 pub mod RangeLemmas
 pub mod RunsLemmas
-pub mod PlacedLemmas
-pub mod MadeLemmas
+pub mod StreamLemmas
+pub mod RowLemmas
+pub mod PartLemmas
+pub mod AreaLemmas
+pub mod VolumeLemmas
 pub mod LawLemmas
 pub mod BitmapLemmas
 pub mod ApartLemmas

@@ -7,8 +7,8 @@ use Rattle.std.proofs.lemmas.List.FromFn.{map-range_with_len_more}
 use Rattle.std.proofs.lemmas.Grind.{flat_map-append}
 use Rattle.byteorder.specs.Endian.{little_bytes}
 use Rattle.ntfs_make.specs.declared.shape.Shape.{Shape}
-use Rattle.ntfs_make.specs.declared.table.Placed.{Placed}
-use Rattle.ntfs_make.specs.Contents.{counting, up_case, upper, bitmap, byte_of}
+use Rattle.ntfs_make.specs.Streams.{counting_bytes, bitmap_bytes, byte_of}
+use Rattle.ntfs_make.specs.UpCase.{up_case_bytes, upper}
 
 range-suc : (a n : ℕ) → range_with_len a (suc n) ≡ range_with_len a n ++ (a + n) ∷ []
 range-suc a zero = ap (λ k. k ∷ []) (omega arith)
@@ -28,26 +28,26 @@ flat_map-range-more f n =
 map-range-more : (f : ℕ → ℕ) (n : ℕ) → map f (range_with_len 0 (n + 1)) ≡ map f (range_with_len 0 n) ++ f n ∷ []
 map-range-more f n = map-range_with_len_more f 0 n n (zero-add n)
 
-pub counting_more : (first n : ℕ) → counting first (n + 1) ≡ counting first n ++ ((first + n) % 256) ∷ []
-unfolding counting
+pub counting_more : (first n : ℕ) → counting_bytes first (n + 1) ≡ counting_bytes first n ++ ((first + n) % 256) ∷ []
+unfolding counting_bytes
 counting_more first n = map-range-more (λ place. (first + place) % 256) n
 
-pub counting_none : (first : ℕ) → counting first 0 ≡ []
-unfolding counting
+pub counting_none : (first : ℕ) → counting_bytes first 0 ≡ []
+unfolding counting_bytes
 counting_none first = refl
 
-pub up_case_more : (n : ℕ) → up_case (n + 1) ≡ up_case n ++ little_bytes 2 (upper n)
-unfolding up_case
+pub up_case_more : (n : ℕ) → up_case_bytes (n + 1) ≡ up_case_bytes n ++ little_bytes 2 (upper n)
+unfolding up_case_bytes
 up_case_more n = flat_map-range-more (λ unit. little_bytes 2 (upper unit)) n
 
-pub up_case_none : up_case 0 ≡ []
-unfolding up_case
+pub up_case_none : up_case_bytes 0 ≡ []
+unfolding up_case_bytes
 up_case_none = refl
 
-pub bitmap_more : (shape : Shape) (placed : List Placed) (n : ℕ) → bitmap shape placed (n + 1) ≡ bitmap shape placed n ++ byte_of shape placed (8 * n) ∷ []
-unfolding bitmap
-bitmap_more shape placed n = map-range-more (λ place. byte_of shape placed (8 * place)) n
+pub bitmap_more : (shape : Shape) (n : ℕ) → bitmap_bytes shape (n + 1) ≡ bitmap_bytes shape n ++ byte_of shape (8 * n) ∷ []
+unfolding bitmap_bytes
+bitmap_more shape n = map-range-more (λ place. byte_of shape (8 * place)) n
 
-pub bitmap_none : (shape : Shape) (placed : List Placed) → bitmap shape placed 0 ≡ []
-unfolding bitmap
-bitmap_none shape placed = refl
+pub bitmap_none : (shape : Shape) → bitmap_bytes shape 0 ≡ []
+unfolding bitmap_bytes
+bitmap_none shape = refl

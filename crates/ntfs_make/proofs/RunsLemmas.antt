@@ -8,7 +8,7 @@ use Rattle.ntfs_runs.specs.Spelling.{last_after}
 use Rattle.ntfs_runs.specs.Canon.{canon, runs_of, in_front, both, goes_on, text_from, run_text, delta_text}
 use Rattle.ntfs_runs.proofs.JoinLemmas.{runs_of-vcns}
 use Rattle.ntfs_runs.proofs.SizeLemmas.{length-shortest}
-use Rattle.ntfs_make.specs.Streams.{unless_empty}
+use Rattle.ntfs_make.specs.Extents.{unless_empty}
 
 pub record IsShort (run : Run) : Type 0 where
   pub length : run.length < 2 ^ 33

@@ -50,7 +50,7 @@ bad_cluster-twice n = omega arith
 pub inside : (start count n c size : ℕ) → start + count ≤ n → size ≤ count * c → start * c + size ≤ (n + 1) * c
 inside start count n c size within fits =
     let most = mul-le-mul_right c within in
-    let parts = add-mul start count c in
+    let area_rows = add-mul start count c in
     let next = add-mul n 1 c in
     omega arith
 

@@ -1,147 +1,148 @@
--- The attributes of a record (the Linux-NTFS documentation, "Attributes"). The words are ours.
+-- The attributes of a record (the Linux-NTFS documentation, "Attribute Header", "$ATTRIBUTE_LIST"). The names at the fields
+-- are those of the layout; a field's place counts from the front of the attribute or entry. The words are ours.
 use Rattle.std.specs.Prelude.{◌+◌, ◌-◌, ◌*◌, ◌%◌, ◌^◌, ◌==◌, ℕ, List, [], ◌∷◌, ◌++◌, length, flat_map, Option, Some, None, if◌then◌else◌}
 use Rattle.ntfs_make.specs.declared.shape.Shape.{Shape}
-use Rattle.ntfs_make.specs.declared.field.Field.TheVariants.{U8, U16, U32, U64}
-use Rattle.ntfs_make.specs.declared.field.Field.TheVariants as a_field
-use Rattle.ntfs_make.specs.declared.table.Placed.{Placed}
-use Rattle.ntfs_make.specs.declared.table.Listed.{Listed}
-use Rattle.ntfs_make.specs.declared.table.Lowest.{Lowest}
-use Rattle.ntfs_make.specs.declared.table.Lowest.TheVariants.{Zero, Behind}
+use Rattle.ntfs_make.specs.declared.field.Field.TheVariants.{U8, U16, U32, U64, Zeros}
+use Rattle.ntfs_make.specs.declared.table.ListEntry.{ListEntry}
+use Rattle.ntfs_make.specs.declared.table.LowestVcn.{LowestVcn}
+use Rattle.ntfs_make.specs.declared.table.LowestVcn.TheVariants.{Zero, Behind}
 use Rattle.ntfs_make.specs.declared.table.Size.{Size}
-use Rattle.ntfs_make.specs.declared.table.Stream.{Stream}
-use Rattle.ntfs_make.specs.Fields.{bytes_of, padded, utf16, zeros}
-use Rattle.ntfs_make.specs.Table.{AttributeValue, BodyValue, Zeros, Bytes, Entries, Name, Rooted, Clustered}
-use Rattle.ntfs_make.specs.Parts.{part_at}
-use Rattle.ntfs_make.specs.Streams.{run_of, count_of, pairs_of, size_of, cells_of}
-use Rattle.ntfs_make.specs.Index.{reference, name_bytes, root_bytes}
+use Rattle.ntfs_make.specs.declared.table.Extent.{Extent}
+use Rattle.ntfs_make.specs.Fields.{fields_bytes, with_padding, utf16_bytes, zero_bytes}
+use Rattle.ntfs_make.specs.Table.{AttributeValue, BodyValue, ZerosBody, BytesBody, ListBody, NameBody, RootBody, ExtentBody}
+use Rattle.ntfs_make.specs.Areas.{area_at}
+use Rattle.ntfs_make.specs.Extents.{run_of, vcn_count, pairs_of, size_of, planned_runs}
+use Rattle.ntfs_make.specs.Index.{reference, file_name_bytes, root_bytes}
 
 -- the lowest VCN that an entry of an attribute list tells
-abbrev pub lowest_at : List Placed → Lowest → ℕ
-lowest_at placed Zero = 0
-lowest_at placed (Behind number) = (part_at placed number).length
+abbrev pub entry_lowest : Shape → LowestVcn → ℕ
+entry_lowest shape Zero = 0
+entry_lowest shape (Behind number) = (area_at shape number).length
 
--- an entry of an attribute list ("$ATTRIBUTE_LIST"): the type, the entry's length, no name and where it would stand, the lowest
--- VCN, the record, the instance
-unfoldable pub listed_bytes : List Placed → Listed → List ℕ
-listed_bytes placed listed =
-    bytes_of (
-    U32 listed.kind
-    ∷ U16 32
-    ∷ U8 0
-    ∷ U8 26
-    ∷ U64 (lowest_at placed listed.lowest)
-    ∷ U64 (reference listed.number)
-    ∷ U16 listed.instance
-    ∷ a_field.Zeros 6
+-- an entry of an attribute list, without a name
+unfoldable pub list_entry_bytes : Shape → ListEntry → List ℕ
+list_entry_bytes shape entry =
+    fields_bytes (
+    U32 entry.kind -- 0x00 type
+    ∷ U16 32 -- 0x04 length
+    ∷ U8 0 -- 0x06 name_length
+    ∷ U8 26 -- 0x07 name_offset
+    ∷ U64 (entry_lowest shape entry.lowest) -- 0x08 lowest_vcn
+    ∷ U64 (reference entry.number) -- 0x10 mft_reference
+    ∷ U16 entry.instance -- 0x18 instance
+    ∷ Zeros 6 -- 0x1A
     ∷ [])
 
-unfoldable pub list_bytes : List Placed → List Listed → List ℕ
-list_bytes placed list = flat_map (listed_bytes placed) list
+unfoldable pub list_bytes : Shape → List ListEntry → List ℕ
+list_bytes shape list = flat_map (list_entry_bytes shape) list
 
--- a resident value; an attribute in clusters has none
-unfoldable pub value_of : Shape → List Placed → BodyValue → List ℕ
-value_of shape placed (Zeros count) = zeros count
-value_of shape placed (Bytes bytes) = bytes
-value_of shape placed (Entries entries) = list_bytes placed entries
-value_of shape placed (Name file) = name_bytes file
-value_of shape placed (Rooted node) = root_bytes shape node
-value_of shape placed (Clustered extent) = []
+-- a resident value; an extent has none
+unfoldable pub value_of : Shape → BodyValue → List ℕ
+value_of shape (ZerosBody count) = zero_bytes count
+value_of shape (BytesBody bytes) = bytes
+value_of shape (ListBody entries) = list_bytes shape entries
+value_of shape (NameBody file) = file_name_bytes file
+value_of shape (RootBody node) = root_bytes shape node
+value_of shape (ExtentBody extent) = []
 
--- an attribute with a resident value: the type, the length, resident, the name's length and place, flags, the instance, the
--- value's length and place, a word; then the name and the value, each up to a multiple of 8
-unfoldable pub resident : ℕ → List ℕ → ℕ → List ℕ → List ℕ
-resident kind name instance value =
-    bytes_of (
-    U32 kind
-    ∷ U32 (24 + length (padded (padded (utf16 name) ++ value)))
-    ∷ U8 0
-    ∷ U8 (length name)
-    ∷ U16 24
-    ∷ U16 0
-    ∷ U16 instance
-    ∷ U32 (length value)
-    ∷ U16 (24 + length (padded (utf16 name)))
-    ∷ U16 0
+-- an attribute with a resident value
+unfoldable pub resident_bytes : ℕ → List ℕ → ℕ → List ℕ → List ℕ
+resident_bytes kind name instance value =
+    fields_bytes (
+    U32 kind -- 0x00 type
+    ∷ U32 (24 + length (with_padding (with_padding (utf16_bytes name) ++ value))) -- 0x04 length
+    ∷ U8 0 -- 0x08 non_resident
+    ∷ U8 (length name) -- 0x09 name_length
+    ∷ U16 24 -- 0x0A name_offset
+    ∷ U16 0 -- 0x0C flags
+    ∷ U16 instance -- 0x0E instance
+    ∷ U32 (length value) -- 0x10 value_length
+    ∷ U16 (24 + length (with_padding (utf16_bytes name))) -- 0x14 value_offset
+    ∷ U16 0 -- 0x16 resident_flags, reserved
     ∷ [])
-    ++ padded (padded (utf16 name) ++ value)
+    ++ with_padding (with_padding (utf16_bytes name) ++ value) -- 0x18
 
 -- the bytes of the extent's clusters, where the extent tells them
-unfoldable pub held_bytes : Shape → List Placed → Option Size → List ℕ
-held_bytes shape placed None = []
-held_bytes shape placed (Some size) = bytes_of (U64 (size_of shape placed size) ∷ [])
+unfoldable pub compressed_size_bytes : Shape → Option Size → List ℕ
+compressed_size_bytes shape None = []
+compressed_size_bytes shape (Some size) = fields_bytes (U64 (size_of shape size) ∷ [])
 
 -- the lowest VCN of an extent: how many stand before it in its stream
-abbrev pub lowest_of : Shape → List Placed → Stream → ℕ
-lowest_of shape placed extent = (run_of shape placed extent.before).length
+abbrev pub extent_lowest : Shape → Extent → ℕ
+extent_lowest shape extent = (run_of shape extent.before).length
 
 -- the VCN behind an extent
-abbrev pub next_of : Shape → List Placed → Stream → ℕ
-next_of shape placed extent = lowest_of shape placed extent + count_of shape placed (cells_of extent)
+abbrev pub extent_next : Shape → Extent → ℕ
+extent_next shape extent = extent_lowest shape extent + vcn_count shape (planned_runs extent)
 
 -- the bytes of all VCNs of the stream, which its first extent alone tells
-unfoldable pub allocated_of : Shape → List Placed → Stream → ℕ
-allocated_of shape placed extent =
-    if lowest_of shape placed extent == 0
-    then (count_of shape placed (cells_of extent) + (run_of shape placed extent.behind).length) * shape.cluster
+unfoldable pub allocated_size_of : Shape → Extent → ℕ
+allocated_size_of shape extent =
+    if extent_lowest shape extent == 0
+    then (vcn_count shape (planned_runs extent) + (run_of shape extent.behind).length) * shape.cluster
     else 0
 
--- what stands between the fields of an attribute in clusters and its mapping pairs
-unfoldable pub front_bytes : Shape → List Placed → List ℕ → Stream → List ℕ
-front_bytes shape placed name extent = held_bytes shape placed extent.held ++ padded (utf16 name)
+-- what stands between the fields of an extent and its mapping pairs: compressed_size at 0x40, where it is told, and the name
+unfoldable pub front_bytes : Shape → List ℕ → Extent → List ℕ
+front_bytes shape name extent = compressed_size_bytes shape extent.compressed_size ++ with_padding (utf16_bytes name)
 
 -- where the mapping pairs begin
-abbrev pub pairs_place : Shape → List Placed → List ℕ → Stream → ℕ
-pairs_place shape placed name extent = 64 + length (front_bytes shape placed name extent)
+abbrev pub pairs_place : Shape → List ℕ → Extent → ℕ
+pairs_place shape name extent = 64 + length (front_bytes shape name extent)
 
 -- what stands behind the fields: the name and the mapping pairs, up to a multiple of 8
-unfoldable pub tail_bytes : Shape → List Placed → List ℕ → Stream → List ℕ
-tail_bytes shape placed name extent = padded (front_bytes shape placed name extent ++ pairs_of shape placed (cells_of extent))
+unfoldable pub tail_bytes : Shape → List ℕ → Extent → List ℕ
+tail_bytes shape name extent =
+    with_padding (front_bytes shape name extent ++ pairs_of shape (planned_runs extent))
 
--- the fields that tell an extent's VCNs and its stream's sizes: the lowest and the highest VCN (-1 where there is none), where
--- the pairs begin, the compression unit, a word, the allocated, the real and the initialised size
-unfoldable pub sizes_bytes : Shape → List Placed → ℕ → Stream → List ℕ
-sizes_bytes shape placed place extent =
-    bytes_of (
-    U64 (lowest_of shape placed extent)
-    ∷ U64 ((next_of shape placed extent + (2 ^ 64 - 1)) % 2 ^ 64)
-    ∷ U16 place
-    ∷ U16 extent.unit
-    ∷ U32 0
-    ∷ U64 (allocated_of shape placed extent)
-    ∷ U64 (size_of shape placed extent.size)
-    ∷ U64 (size_of shape placed extent.initialised)
+-- the fields of an extent from 0x10 on; the highest VCN is -1 where there is none
+unfoldable pub sizes_bytes : Shape → ℕ → Extent → List ℕ
+sizes_bytes shape place extent =
+    fields_bytes (
+    U64 (extent_lowest shape extent) -- 0x10 lowest_vcn
+    ∷ U64 ((extent_next shape extent + (2 ^ 64 - 1)) % 2 ^ 64) -- 0x18 highest_vcn
+    ∷ U16 place -- 0x20 mapping_pairs_offset
+    ∷ U16 extent.unit -- 0x22 compression_unit
+    ∷ U32 0 -- 0x24 reserved
+    ∷ U64 (allocated_size_of shape extent) -- 0x28 allocated_size
+    ∷ U64 (size_of shape extent.size) -- 0x30 data_size
+    ∷ U64 (size_of shape extent.initialised) -- 0x38 initialized_size
     ∷ [])
 
--- an attribute in clusters: the type, the length, not resident, the name's length and place, flags, the instance; then VCNs and
--- sizes, the name and the pairs
-unfoldable pub nonresident : Shape → List Placed → ℕ → List ℕ → ℕ → Stream → List ℕ
-nonresident shape placed kind name instance extent =
-    bytes_of (
-    U32 kind
-    ∷ U32 (64 + length (tail_bytes shape placed name extent))
-    ∷ U8 1
-    ∷ U8 (length name)
-    ∷ U16 64
-    ∷ U16 extent.flags
-    ∷ U16 instance
+-- an attribute in clusters
+unfoldable pub nonresident_bytes : Shape → ℕ → List ℕ → ℕ → Extent → List ℕ
+nonresident_bytes shape kind name instance extent =
+    fields_bytes (
+    U32 kind -- 0x00 type
+    ∷ U32 (64 + length (tail_bytes shape name extent)) -- 0x04 length
+    ∷ U8 1 -- 0x08 non_resident
+    ∷ U8 (length name) -- 0x09 name_length
+    ∷ U16 64 -- 0x0A name_offset
+    ∷ U16 extent.flags -- 0x0C flags
+    ∷ U16 instance -- 0x0E instance
     ∷ [])
-    ++ sizes_bytes shape placed (pairs_place shape placed name extent) extent
-    ++ tail_bytes shape placed name extent
+    ++ sizes_bytes shape (pairs_place shape name extent) extent
+    ++ tail_bytes shape name extent
 
-abbrev pub body_bytes : Shape → List Placed → ℕ → List ℕ → ℕ → BodyValue → List ℕ
-body_bytes shape placed kind name instance (Clustered extent) = nonresident shape placed kind name instance extent
-body_bytes shape placed kind name instance (Zeros count) = resident kind name instance (value_of shape placed (Zeros count))
-body_bytes shape placed kind name instance (Bytes bytes) = resident kind name instance (value_of shape placed (Bytes bytes))
-body_bytes shape placed kind name instance (Entries entries) = resident kind name instance (value_of shape placed (Entries entries))
-body_bytes shape placed kind name instance (Name file) = resident kind name instance (value_of shape placed (Name file))
-body_bytes shape placed kind name instance (Rooted node) = resident kind name instance (value_of shape placed (Rooted node))
+abbrev pub body_bytes : Shape → ℕ → List ℕ → ℕ → BodyValue → List ℕ
+body_bytes shape kind name instance (ExtentBody extent) = nonresident_bytes shape kind name instance extent
+body_bytes shape kind name instance (ZerosBody count) =
+    resident_bytes kind name instance (value_of shape (ZerosBody count))
+body_bytes shape kind name instance (BytesBody bytes) =
+    resident_bytes kind name instance (value_of shape (BytesBody bytes))
+body_bytes shape kind name instance (ListBody entries) =
+    resident_bytes kind name instance (value_of shape (ListBody entries))
+body_bytes shape kind name instance (NameBody file) =
+    resident_bytes kind name instance (value_of shape (NameBody file))
+body_bytes shape kind name instance (RootBody node) =
+    resident_bytes kind name instance (value_of shape (RootBody node))
 
 -- an attribute with its instance
-unfoldable pub attribute_bytes : Shape → List Placed → ℕ → AttributeValue → List ℕ
-attribute_bytes shape placed instance attribute = body_bytes shape placed attribute.kind attribute.name instance attribute.body
+unfoldable pub attribute_bytes : Shape → ℕ → AttributeValue → List ℕ
+attribute_bytes shape instance attribute = body_bytes shape attribute.kind attribute.name instance attribute.body
 
 -- attributes, whose instances count up
-abbrev pub attributes_bytes : Shape → List Placed → ℕ → List AttributeValue → List ℕ
-attributes_bytes shape placed instance [] = []
-attributes_bytes shape placed instance (attribute ∷ attributes) =
-    attribute_bytes shape placed instance attribute ++ attributes_bytes shape placed (instance + 1) attributes
+abbrev pub attributes_bytes : Shape → ℕ → List AttributeValue → List ℕ
+attributes_bytes shape instance [] = []
+attributes_bytes shape instance (attribute ∷ attributes) =
+    attribute_bytes shape instance attribute ++ attributes_bytes shape (instance + 1) attributes

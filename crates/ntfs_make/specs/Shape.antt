@@ -4,7 +4,8 @@ use Rattle.ntfs_make.specs.declared.shape.Shape.{Shape}
 
 -- a power of two from 512 to 65,536
 unfoldable pub is_cluster_size : ℕ → Bool
-is_cluster_size c = c == 512 || c == 1024 || c == 2048 || c == 4096 || c == 8192 || c == 16384 || c == 32768 || c == 65536
+is_cluster_size c =
+    c == 512 || c == 1024 || c == 2048 || c == 4096 || c == 8192 || c == 16384 || c == 32768 || c == 65536
 
 -- the volumes that are generated: from 1,024 clusters on, or 2,048 of 512 bytes, up to 1,048,576
 pub record IsShape (shape : Shape) : Type 0 where
@@ -26,7 +27,8 @@ bitmap_size clusters = 8 * ((clusters + 63) / 64)
 
 -- the number of sectors of 512 bytes: those of the clusters, and for an odd seed one less than a cluster's more
 unfoldable pub sectors : Shape → ℕ
-sectors shape = shape.clusters * (shape.cluster / 512) + (if shape.seed % 2 == 1 then shape.cluster / 512 - 1 else 0)
+sectors shape =
+    shape.clusters * (shape.cluster / 512) + (if shape.seed % 2 == 1 then shape.cluster / 512 - 1 else 0)
 
 -- the bad cluster
 unfoldable pub bad_cluster : ℕ → ℕ

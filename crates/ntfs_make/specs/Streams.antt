@@ -1,58 +1,77 @@
--- The clusters and sizes of streams on the volume. The words are ours.
-use Rattle.std.specs.Prelude.{◌+◌, ◌-◌, ◌*◌, ◌==◌, ℕ, List, [], ◌∷◌, map, flat_map, Some, None, sum_by, if◌then◌else◌}
-use Rattle.ntfs_runs.specs.declared.run.Run.{Run}
-use Rattle.ntfs_runs.specs.Clusters.{vcns}
-use Rattle.ntfs_runs.specs.Canon.{canon}
+-- What the streams in clusters have, and what of them stands in an area. Byte b of a stream stands in VCN b / c, where a
+-- cluster has c bytes (the Linux-NTFS documentation, "Concepts", on VCNs). Where no source is named, the words are ours.
+use Rattle.std.specs.Prelude.{◌≡◌, ◌≤◌, ◌+◌, ◌-◌, ◌*◌, ◌%◌, ◌==◌, ◌&&◌, ◌||◌, ℕ, Bool, true, false, List, [], ◌∷◌, map, take, drop, replicate, nat_le, nat_lt, if◌then◌else◌}
+use Rattle.std.specs.List.{range_with_len}
 use Rattle.ntfs_make.specs.declared.shape.Shape.{Shape}
-use Rattle.ntfs_make.specs.declared.table.Placed.{Placed}
-use Rattle.ntfs_make.specs.declared.table.Cells.{Cells}
-use Rattle.ntfs_make.specs.declared.table.Cells.TheVariants.{Nothing, Part, Holes, BeforeBad, Bad, BehindBad}
-use Rattle.ntfs_make.specs.declared.table.Stream.{Stream}
-use Rattle.ntfs_make.specs.declared.table.Size.{Size}
-use Rattle.ntfs_make.specs.declared.table.Size.TheVariants as a_size
+use Rattle.ntfs_make.specs.declared.table.Area.{Area}
+use Rattle.ntfs_make.specs.declared.table.Content.{Content}
+use Rattle.ntfs_make.specs.declared.table.Content.TheVariants.{Boot, Mft, Mirror, Log, Bitmap, UpCase, Index, Counting}
 use Rattle.ntfs_make.specs.Shape.{bad_cluster, bitmap_size}
-use Rattle.ntfs_make.specs.Parts.{part_at}
+use Rattle.ntfs_make.specs.Areas.{areas_of, cluster_count}
+use Rattle.ntfs_make.specs.Rows.{rows}
+use Rattle.ntfs_make.specs.UpCase.{up_case_bytes}
+use Rattle.ntfs_make.specs.Index.{index_block}
+use Rattle.ntfs_make.specs.Records.{records_bytes, rows_between}
+use Rattle.ntfs_make.specs.Boot.{boot_sector}
 
-abbrev pub holes : ℕ → Run
-holes count = record { length = count; lcn = None }
+-- so many bytes FF
+unfoldable pub ff_bytes : ℕ → List ℕ
+ff_bytes count = replicate count 0xFF
 
-abbrev pub clusters : ℕ → ℕ → Run
-clusters start count = record { length = count; lcn = Some start }
+-- so many bytes that count up from a number
+unfoldable pub counting_bytes : ℕ → ℕ → List ℕ
+counting_bytes first count = map (λ place. (first + place) % 256) (range_with_len 0 count)
 
--- the run of these cells
-unfoldable pub run_of : Shape → List Placed → Cells → Run
-run_of shape placed Nothing = holes 0
-run_of shape placed (Part number) = clusters (part_at placed number).start (part_at placed number).length
-run_of shape placed (Holes count) = holes count
-run_of shape placed BeforeBad = holes (bad_cluster shape.clusters)
-run_of shape placed Bad = clusters (bad_cluster shape.clusters) 1
-run_of shape placed BehindBad = holes (shape.clusters - bad_cluster shape.clusters - 1)
+-- whether a cluster is one of an area
+abbrev pub has_area : List Area → ℕ → Bool
+has_area [] cluster = false
+has_area (area ∷ areas) cluster =
+    if nat_le area.start cluster && nat_lt (cluster - area.start) area.length then true else has_area areas cluster
 
--- the clusters and holes of an extent
-abbrev pub cells_of : Stream → List Cells
-cells_of extent = extent.first ∷ extent.second ∷ extent.third ∷ []
+-- the bit of a cluster in $Bitmap: 1 for the clusters of areas and the bad one, and for the numbers from that of clusters on
+-- ("$Bitmap")
+unfoldable pub bit_of : Shape → ℕ → ℕ
+bit_of shape cluster =
+    if nat_le shape.clusters cluster || cluster == bad_cluster shape.clusters || has_area (areas_of shape) cluster
+    then 1 else 0
 
--- the run, where it has a cluster
-abbrev pub unless_empty : Run → List Run
-unless_empty run = if run.length == 0 then [] else run ∷ []
+-- the bits of eight clusters, the first of which is the lowest
+unfoldable pub byte_of : Shape → ℕ → ℕ
+byte_of shape cluster =
+    bit_of shape cluster
+    + 2 * bit_of shape (cluster + 1)
+    + 4 * bit_of shape (cluster + 2)
+    + 8 * bit_of shape (cluster + 3)
+    + 16 * bit_of shape (cluster + 4)
+    + 32 * bit_of shape (cluster + 5)
+    + 64 * bit_of shape (cluster + 6)
+    + 128 * bit_of shape (cluster + 7)
 
--- the runs of these cells
-unfoldable pub runs_of : Shape → List Placed → List Cells → List Run
-runs_of shape placed cells = flat_map (λ run. unless_empty run) (map (run_of shape placed) cells)
+-- so many bytes of $Bitmap
+unfoldable pub bitmap_bytes : Shape → ℕ → List ℕ
+bitmap_bytes shape count = map (λ place. byte_of shape (8 * place)) (range_with_len 0 count)
 
--- how many VCNs these cells have
-unfoldable pub count_of : Shape → List Placed → List Cells → ℕ
-count_of shape placed cells = sum_by (λ each. (run_of shape placed each).length) cells
+-- the bytes of a stream from VCN 0 on; behind them it has zeros. $MFT has all records, and its mirror the first four
+unfoldable pub stream_bytes : Shape → Content → List ℕ
+stream_bytes shape Boot = boot_sector shape
+stream_bytes shape Mft = records_bytes shape rows
+stream_bytes shape Mirror = records_bytes shape (rows_between 0 4 rows)
+stream_bytes shape Log = ff_bytes 65536
+stream_bytes shape Bitmap = bitmap_bytes shape (bitmap_size shape.clusters)
+stream_bytes shape UpCase = up_case_bytes 65536
+stream_bytes shape Index = index_block
+stream_bytes shape (Counting number vcns) = counting_bytes number (cluster_count shape vcns * shape.cluster)
 
--- the mapping pairs of these cells: their shortest spelling, with the closing 0
-unfoldable pub pairs_of : Shape → List Placed → List Cells → List ℕ
-pairs_of shape placed cells = canon (vcns (runs_of shape placed cells))
+-- so many bytes of a list from a place on, as far as there are any
+abbrev pub bytes_between : ℕ → ℕ → List ℕ → List ℕ
+bytes_between from count bytes = take count (drop from bytes)
 
--- a number of bytes
-unfoldable pub size_of : Shape → List Placed → Size → ℕ
-size_of shape placed (a_size.Bytes count) = count
-size_of shape placed (a_size.Clusters count) = count * shape.cluster
-size_of shape placed (a_size.Over count) = shape.cluster + count
-size_of shape placed (a_size.Part number) = (part_at placed number).length * shape.cluster
-size_of shape placed a_size.Bitmap = bitmap_size shape.clusters
-size_of shape placed a_size.Volume = shape.clusters * shape.cluster
+-- what an area has: the bytes of its VCNs; what is left of its clusters behind them is zero
+unfoldable pub area_bytes : Shape → Area → List ℕ
+area_bytes shape area =
+    bytes_between (area.first_vcn * shape.cluster) (area.length * shape.cluster) (stream_bytes shape area.content)
+
+-- bytes of a stream, of which the first stands at a place, have so many of them from another place on
+pub record HasBetween (from count : ℕ) (stream : List ℕ) (place : ℕ) (bytes : List ℕ) : Type 0 where
+  pub begins : place ≤ from
+  pub has : bytes_between (from - place) count bytes ≡ bytes_between from count stream

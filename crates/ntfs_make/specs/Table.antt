@@ -3,18 +3,18 @@
 use Rattle.std.specs.Prelude.{ℕ, List, [], ◌∷◌, map, Option, None}
 use Rattle.ntfs_make.specs.declared.table.Row.{Row}
 use Rattle.ntfs_make.specs.declared.table.Attribute.{Attribute}
-use Rattle.ntfs_make.specs.declared.table.Body.{Body}
-use Rattle.ntfs_make.specs.declared.table.Body.TheVariants as a_body
+use Rattle.ntfs_make.specs.declared.table.AttributeBody.{AttributeBody}
+use Rattle.ntfs_make.specs.declared.table.AttributeBody.TheVariants as a_body
 use Rattle.ntfs_make.specs.declared.table.FileName.{FileName}
-use Rattle.ntfs_make.specs.declared.table.Listed.{Listed}
-use Rattle.ntfs_make.specs.declared.table.Lowest.{Lowest}
+use Rattle.ntfs_make.specs.declared.table.ListEntry.{ListEntry}
+use Rattle.ntfs_make.specs.declared.table.LowestVcn.{LowestVcn}
 use Rattle.ntfs_make.specs.declared.table.Root.{Root}
 use Rattle.ntfs_make.specs.declared.table.Root.TheVariants as a_root
-use Rattle.ntfs_make.specs.declared.table.Stream.{Stream}
-use Rattle.ntfs_make.specs.declared.table.Cells.{Cells}
-use Rattle.ntfs_make.specs.declared.table.Cells.TheVariants.{Nothing}
+use Rattle.ntfs_make.specs.declared.table.Extent.{Extent}
+use Rattle.ntfs_make.specs.declared.table.PlannedRun.{PlannedRun}
+use Rattle.ntfs_make.specs.declared.table.PlannedRun.TheVariants.{NoRun}
 use Rattle.ntfs_make.specs.declared.table.Size.{Size}
-use Rattle.ntfs_make.specs.declared.table.Indexed.{Indexed}
+use Rattle.ntfs_make.specs.declared.table.RootName.{RootName}
 
 -- a file name: the record of its directory, its namespace, its letters
 pub record NameValue : Type 0 where
@@ -24,18 +24,18 @@ pub record NameValue : Type 0 where
 
 -- what an index root has: the end with the child 0; the end; a name of a record, and the end
 pub data RootValue : Type 0 where
-  Child : RootValue
-  Empty : RootValue
-  One : (record_number : ℕ) (file : NameValue) → RootValue
+  ChildRoot : RootValue
+  EmptyRoot : RootValue
+  OneRoot : (record_number : ℕ) (file : NameValue) → RootValue
 
--- what an attribute has: a resident value of zeros, of bytes, of a list, of a name, of an index root; or clusters
+-- what an attribute has: a resident value of zeros, of bytes, of a list, of a name, of an index root; or an extent
 pub data BodyValue : Type 0 where
-  Zeros : (count : ℕ) → BodyValue
-  Bytes : (bytes : List ℕ) → BodyValue
-  Entries : (entries : List Listed) → BodyValue
-  Name : (file : NameValue) → BodyValue
-  Rooted : (node : RootValue) → BodyValue
-  Clustered : (extent : Stream) → BodyValue
+  ZerosBody : (count : ℕ) → BodyValue
+  BytesBody : (bytes : List ℕ) → BodyValue
+  ListBody : (entries : List ListEntry) → BodyValue
+  NameBody : (file : NameValue) → BodyValue
+  RootBody : (node : RootValue) → BodyValue
+  ExtentBody : (extent : Extent) → BodyValue
 
 -- an attribute: its type, its name, and what it has
 pub record AttributeValue : Type 0 where
@@ -51,83 +51,97 @@ pub record RowValue : Type 0 where
   pub attributes : List AttributeValue
 
 -- a name of the root's index, and the record that has it
-pub record IndexedValue : Type 0 where
+pub record RootNameValue : Type 0 where
   pub number : ℕ
   pub name : NameValue
 
 -- the rows of the source as values
-abbrev pub name_of : FileName → NameValue
-name_of file = record { parent = file.parent; space = file.space; letters = file.letters.now }
+abbrev pub name_value : FileName → NameValue
+name_value file = record { parent = file.parent; space = file.space; letters = file.letters.now }
 
-abbrev pub root_of : Root → RootValue
-root_of a_root.Child = Child
-root_of a_root.Empty = Empty
-root_of (a_root.One number file) = One number (name_of file)
+abbrev pub root_value : Root → RootValue
+root_value a_root.Child = ChildRoot
+root_value a_root.Empty = EmptyRoot
+root_value (a_root.One number file) = OneRoot number (name_value file)
 
-abbrev pub body_of : Body → BodyValue
-body_of (a_body.Zeros count) = Zeros count
-body_of (a_body.Bytes bytes) = Bytes bytes.now
-body_of (a_body.List entries) = Entries entries.now
-body_of (a_body.Name file) = Name (name_of file)
-body_of (a_body.Root node) = Rooted (root_of node)
-body_of (a_body.Stream extent) = Clustered extent
+abbrev pub body_value : AttributeBody → BodyValue
+body_value (a_body.Zeros count) = ZerosBody count
+body_value (a_body.Bytes bytes) = BytesBody bytes.now
+body_value (a_body.List entries) = ListBody entries.now
+body_value (a_body.Name file) = NameBody (name_value file)
+body_value (a_body.Root node) = RootBody (root_value node)
+body_value (a_body.Extent extent) = ExtentBody extent
 
-abbrev pub attribute_of : Attribute → AttributeValue
-attribute_of attribute = record { kind = attribute.kind; name = attribute.name.now; body = body_of attribute.body }
+abbrev pub attribute_value : Attribute → AttributeValue
+attribute_value attribute =
+    record { kind = attribute.kind; name = attribute.name.now; body = body_value attribute.body }
 
-abbrev pub row_of : Row → RowValue
-row_of row = record { number = row.number; flags = row.flags; base = row.base; attributes = map attribute_of row.attributes.now }
+abbrev pub row_value : Row → RowValue
+row_value row = record {
+  number = row.number;
+  flags = row.flags;
+  base = row.base;
+  attributes = map attribute_value row.attributes.now;
+}
 
-abbrev pub indexed_of : Indexed → IndexedValue
-indexed_of indexed = record { number = indexed.number; name = name_of indexed.name }
+abbrev pub root_name_value : RootName → RootNameValue
+root_name_value one = record { number = one.number; name = name_value one.name }
 
 -- the forms of rows
-abbrev pub name : ℕ → ℕ → List ℕ → NameValue
-name parent space letters = record { parent = parent; space = space; letters = letters }
+abbrev pub name_with : ℕ → ℕ → List ℕ → NameValue
+name_with parent space letters = record { parent = parent; space = space; letters = letters }
 
-abbrev pub standard : AttributeValue
-standard = record { kind = 0x10; name = []; body = Zeros 72 }
+abbrev pub standard_attribute : AttributeValue
+standard_attribute = record { kind = 0x10; name = []; body = ZerosBody 72 }
 
-abbrev pub file_name : ℕ → ℕ → List ℕ → AttributeValue
-file_name parent space letters = record { kind = 0x30; name = []; body = Name (name parent space letters) }
+abbrev pub name_attribute : ℕ → ℕ → List ℕ → AttributeValue
+name_attribute parent space letters =
+    record { kind = 0x30; name = []; body = NameBody (name_with parent space letters) }
 
-abbrev pub value : ℕ → List ℕ → List ℕ → AttributeValue
-value kind letters bytes = record { kind = kind; name = letters; body = Bytes bytes }
+abbrev pub value_attribute : ℕ → List ℕ → List ℕ → AttributeValue
+value_attribute kind letters bytes = record { kind = kind; name = letters; body = BytesBody bytes }
 
-abbrev pub list : List Listed → AttributeValue
-list entries = record { kind = 0x20; name = []; body = Entries entries }
+abbrev pub list_attribute : List ListEntry → AttributeValue
+list_attribute entries = record { kind = 0x20; name = []; body = ListBody entries }
 
-abbrev pub listed : ℕ → Lowest → ℕ → ℕ → Listed
-listed kind lowest number instance = record { kind = kind; lowest = lowest; number = number; instance = instance }
+abbrev pub list_entry : ℕ → LowestVcn → ℕ → ℕ → ListEntry
+list_entry kind lowest number instance =
+    record { kind = kind; lowest = lowest; number = number; instance = instance }
 
-abbrev pub root : RootValue → AttributeValue
-root node = record { kind = 0x90; name = 0x24 ∷ 0x49 ∷ 0x33 ∷ 0x30 ∷ []; body = Rooted node }
+abbrev pub root_attribute : RootValue → AttributeValue
+root_attribute node = record { kind = 0x90; name = 0x24 ∷ 0x49 ∷ 0x33 ∷ 0x30 ∷ []; body = RootBody node }
 
-abbrev pub stream : ℕ → List ℕ → Stream → AttributeValue
-stream kind letters extent = record { kind = kind; name = letters; body = Clustered extent }
+abbrev pub extent_attribute : ℕ → List ℕ → Extent → AttributeValue
+extent_attribute kind letters extent = record { kind = kind; name = letters; body = ExtentBody extent }
 
--- the unnamed $DATA of one run and one size
-abbrev pub whole : Cells → Size → AttributeValue
-whole cells size = stream 0x80 [] (record {
+-- an extent of one run, of a stream of one size, with what stands before and behind it in the stream
+abbrev pub one_run : PlannedRun → PlannedRun → PlannedRun → Size → Extent
+one_run before run behind size = record {
   flags = 0;
   unit = 0;
-  held = None;
-  before = Nothing;
-  first = cells;
-  second = Nothing;
-  third = Nothing;
-  behind = Nothing;
+  compressed_size = None;
+  before = before;
+  first = run;
+  second = NoRun;
+  third = NoRun;
+  behind = behind;
   size = size;
   initialised = size;
-})
+}
+
+-- the unnamed $DATA of one run and one size
+abbrev pub data_attribute : PlannedRun → Size → AttributeValue
+data_attribute run size = extent_attribute 0x80 [] (one_run NoRun run NoRun size)
 
 abbrev pub row_with : ℕ → ℕ → Option ℕ → List AttributeValue → RowValue
-row_with number flags base attributes = record { number = number; flags = flags; base = base; attributes = attributes }
+row_with number flags base attributes =
+    record { number = number; flags = flags; base = base; attributes = attributes }
 
 -- a file in the root, whose name is of both namespaces
-abbrev pub file : ℕ → List ℕ → AttributeValue → RowValue
-file number letters contents = row_with number 1 None (standard ∷ file_name 5 3 letters ∷ contents ∷ [])
+abbrev pub file_row : ℕ → List ℕ → AttributeValue → RowValue
+file_row number letters contents =
+    row_with number 1 None (standard_attribute ∷ name_attribute 5 3 letters ∷ contents ∷ [])
 
 -- a record that is not in use
-abbrev pub unused : ℕ → RowValue
-unused number = row_with number 0 None []
+abbrev pub unused_row : ℕ → RowValue
+unused_row number = row_with number 0 None []

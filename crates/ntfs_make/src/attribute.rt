@@ -1,85 +1,80 @@
 //! The attributes of a record.
 
 ghost use Rattle.std.specs.Prelude.{◌≡◌, ◌++◌, OnOk, IfOk, map};
-ghost use Rattle.ntfs_make.specs.Shape.{IsShape};
-ghost use Rattle.ntfs_make.specs.Parts.{AreSmall};
-ghost use Rattle.ntfs_make.specs.Table.{attribute_of, body_of};
+ghost use Rattle.ntfs_make.specs.Table.{attribute_value, body_value};
 ghost use Rattle.ntfs_make.specs.Attributes as spec;
 
 use crate::field::{Field, pad, put_fields, put_letters, put_zeros};
 use crate::index::{put_name, put_root, reference};
-use crate::place::part_at;
-use crate::runs::{count_of, put_pairs, run_of, size_of};
-use crate::shape::Shape;
-use crate::table::{Attribute, Body, Listed, Lowest, Placed, Size, Stream};
+use crate::extent::{put_pairs, run_of, size_of, vcn_count};
+use crate::layout::Layout;
+use crate::table::{Attribute, AttributeBody, Extent, ListEntry, LowestVcn, Size};
 use std::alloc::{AllocError, Global};
 
 // The lowest VCN that an entry of an attribute list tells.
-fn lowest_at(placed: &[Placed], lowest: Lowest) -> u64
-    ensures { result ≡ spec.lowest_at placed.now lowest }
+fn entry_lowest(layout: &Layout, lowest: LowestVcn) -> u64
+    ensures { result ≡ spec.entry_lowest layout.now lowest }
 {
     match lowest {
-        Lowest::Zero => 0,
-        Lowest::Behind(number) => part_at(placed, number).length,
+        LowestVcn::Zero => 0,
+        LowestVcn::Behind(number) => layout.area(number).length,
     }
 }
 
 // Puts an entry of an attribute list.
-#[tactic(auto, unfolding(crate::specs::Attributes::listed_bytes))]
-fn put_listed(out: &mut Vec<u8>, placed: &[Placed], listed: &Listed) -> Result<(), AllocError>
-    ensures { OnOk result (out.new.items ≡ out.old.items ++ spec.listed_bytes placed.now listed.now) }
+#[tactic(auto, unfolding(crate::specs::Attributes::list_entry_bytes))]
+fn put_list_entry(out: &mut Vec<u8>, layout: &Layout, entry: &ListEntry) -> Result<(), AllocError>
+    ensures { OnOk result (out.new.items ≡ out.old.items ++ spec.list_entry_bytes layout.now entry.now) }
 {
     put_fields(
         out,
         &[
-            Field::U32(u64::from(listed.kind)),
-            Field::U16(32),
-            Field::U8(0),
-            Field::U8(26),
-            Field::U64(lowest_at(placed, listed.lowest)),
-            Field::U64(reference(listed.number)),
-            Field::U16(u64::from(listed.instance)),
-            Field::Zeros(6),
+            Field::U32(u64::from(entry.kind)), // 0x00 type
+            Field::U16(32), // 0x04 length
+            Field::U8(0), // 0x06 name_length
+            Field::U8(26), // 0x07 name_offset
+            Field::U64(entry_lowest(layout, entry.lowest)), // 0x08 lowest_vcn
+            Field::U64(reference(entry.number)), // 0x10 mft_reference
+            Field::U16(u64::from(entry.instance)), // 0x18 instance
+            Field::Zeros(6), // 0x1A
         ],
     )
 }
 
 // Puts the entries of an attribute list.
 #[tactic(auto, unfolding(crate::specs::Attributes::list_bytes))]
-fn put_list(out: &mut Vec<u8>, placed: &[Placed], list: &[Listed]) -> Result<(), AllocError>
-    ensures { OnOk result (out.new.items ≡ out.old.items ++ spec.list_bytes placed.now list.now) }
+fn put_list(out: &mut Vec<u8>, layout: &Layout, list: &[ListEntry]) -> Result<(), AllocError>
+    ensures { OnOk result (out.new.items ≡ out.old.items ++ spec.list_bytes layout.now list.now) }
 {
-    'entries: for listed in list {
-        put_listed(out, placed, listed)?;
+    'entries: for entry in list {
+        put_list_entry(out, layout, entry)?;
     }
     Ok(())
 }
 
-// A resident value; a stream in clusters has none.
+// A resident value; an extent has none.
 #[tactic(auto, unfolding(crate::specs::Attributes::value_of))]
 fn value_of(
     alloc: Global,
-    shape: &Shape,
-    placed: &[Placed],
-    body: &Body,
+    layout: &Layout,
+    body: &AttributeBody,
 ) -> Result<Vec<u8>, AllocError>
-    requires { IsShape shape.now }
-    ensures { IfOk result (λ value. value.items ≡ spec.value_of shape.now placed.now (body_of body.now)) }
+    ensures { IfOk result (λ value. value.items ≡ spec.value_of layout.now (body_value body.now)) }
 {
     let mut value = Vec::new(alloc);
     match body {
-        Body::Zeros(count) => put_zeros(&mut value, *count)?,
-        Body::Bytes(bytes) => value.extend_from_slice(bytes)?,
-        Body::List(list) => put_list(&mut value, placed, list)?,
-        Body::Name(name) => put_name(&mut value, name)?,
-        Body::Root(root) => put_root(alloc, &mut value, shape, root)?,
-        Body::Stream(_) => {}
+        AttributeBody::Zeros(count) => put_zeros(&mut value, *count)?,
+        AttributeBody::Bytes(bytes) => value.extend_from_slice(bytes)?,
+        AttributeBody::List(list) => put_list(&mut value, layout, list)?,
+        AttributeBody::Name(name) => put_name(&mut value, name)?,
+        AttributeBody::Root(root) => put_root(alloc, &mut value, layout, root)?,
+        AttributeBody::Extent(_) => {}
     }
     Ok(value)
 }
 
 // Puts an attribute with a resident value.
-#[tactic(auto, unfolding(crate::specs::Attributes::resident))]
+#[tactic(auto, unfolding(crate::specs::Attributes::resident_bytes))]
 fn put_resident(
     alloc: Global,
     out: &mut Vec<u8>,
@@ -88,7 +83,7 @@ fn put_resident(
     instance: u64,
     value: &[u8],
 ) -> Result<(), AllocError>
-    ensures { OnOk result (out.new.items ≡ out.old.items ++ spec.resident kind name.now instance value.now) }
+    ensures { OnOk result (out.new.items ≡ out.old.items ++ spec.resident_bytes kind name.now instance value.now) }
 {
     let mut body = Vec::new(alloc);
     put_letters(&mut body, name)?;
@@ -99,49 +94,44 @@ fn put_resident(
     put_fields(
         out,
         &[
-            Field::U32(u64::from(kind)),
-            Field::U32(24 + body.len() as u64),
-            Field::U8(0),
-            Field::U8(name.len() as u64),
-            Field::U16(24),
-            Field::U16(0),
-            Field::U16(instance),
-            Field::U32(value.len() as u64),
-            Field::U16(place),
-            Field::U16(0),
+            Field::U32(u64::from(kind)), // 0x00 type
+            Field::U32(24 + body.len() as u64), // 0x04 length
+            Field::U8(0), // 0x08 non_resident
+            Field::U8(name.len() as u64), // 0x09 name_length
+            Field::U16(24), // 0x0A name_offset
+            Field::U16(0), // 0x0C flags
+            Field::U16(instance), // 0x0E instance
+            Field::U32(value.len() as u64), // 0x10 value_length
+            Field::U16(place), // 0x14 value_offset
+            Field::U16(0), // 0x16 resident_flags, reserved
         ],
     )?;
     out.extend_from_slice(&body)
 }
 
 // Puts the bytes of the extent's clusters, where the extent tells them.
-#[tactic(auto, unfolding(crate::specs::Attributes::held_bytes))]
-fn put_held(
+#[tactic(auto, unfolding(crate::specs::Attributes::compressed_size_bytes))]
+fn put_compressed_size(
     out: &mut Vec<u8>,
-    shape: &Shape,
-    placed: &[Placed],
-    held: Option<Size>,
+    layout: &Layout,
+    compressed_size: Option<Size>,
 ) -> Result<(), AllocError>
-    requires shape { IsShape shape.now }
-    requires small { AreSmall placed.now }
-    ensures { OnOk result (out.new.items ≡ out.old.items ++ spec.held_bytes shape.now placed.now held) }
+    ensures { OnOk result (out.new.items ≡ out.old.items ++ spec.compressed_size_bytes layout.now compressed_size) }
 {
-    match held {
-        Some(size) => put_fields(out, &[Field::U64(size_of(shape, placed, size))]),
+    match compressed_size {
+        Some(size) => put_fields(out, &[Field::U64(size_of(layout, size))]),
         None => Ok(()),
     }
 }
 
 // The bytes of all VCNs of the stream; an extent that isn't the first tells none.
-#[tactic(auto, unfolding(crate::specs::Attributes::allocated_of))]
-fn allocated_of(shape: &Shape, placed: &[Placed], stream: &Stream) -> u64
-    requires shape { IsShape shape.now }
-    requires small { AreSmall placed.now }
-    ensures { result ≡ spec.allocated_of shape.now placed.now stream.now }
+#[tactic(auto, unfolding(crate::specs::Attributes::allocated_size_of))]
+fn allocated_size_of(layout: &Layout, extent: &Extent) -> u64
+    ensures { result ≡ spec.allocated_size_of layout.now extent.now }
 {
-    if run_of(shape, placed, stream.before).length == 0 {
-        (count_of(shape, placed, stream) + run_of(shape, placed, stream.behind).length)
-            * shape.cluster
+    if run_of(layout, extent.before).length == 0 {
+        (vcn_count(layout, extent) + run_of(layout, extent.behind).length)
+            * layout.shape().cluster
     } else {
         0
     }
@@ -158,24 +148,21 @@ struct Tail {
 #[tactic(auto, unfolding(crate::specs::Attributes::tail_bytes, crate::specs::Attributes::front_bytes))]
 fn tail_of(
     alloc: Global,
-    shape: &Shape,
-    placed: &[Placed],
+    layout: &Layout,
     name: &[u8],
-    stream: &Stream,
+    extent: &Extent,
 ) -> Result<Tail, AllocError>
-    requires shape { IsShape shape.now }
-    requires small { AreSmall placed.now }
-    ensures bytes { IfOk result (λ tail. tail.bytes.items ≡ spec.tail_bytes shape.now placed.now name.now stream.now) }
-    ensures place { IfOk result (λ tail. tail.place ≡ spec.pairs_place shape.now placed.now name.now stream.now) }
+    ensures bytes { IfOk result (λ tail. tail.bytes.items ≡ spec.tail_bytes layout.now name.now extent.now) }
+    ensures place { IfOk result (λ tail. tail.place ≡ spec.pairs_place layout.now name.now extent.now) }
 {
     let mut bytes = Vec::new(alloc);
-    put_held(&mut bytes, shape, placed, stream.held)?;
+    put_compressed_size(&mut bytes, layout, extent.compressed_size)?;
     let mut letters = Vec::new(alloc);
     put_letters(&mut letters, name)?;
     pad(&mut letters)?;
     bytes.extend_from_slice(&letters)?;
     let place = 64 + bytes.len() as u64;
-    put_pairs(alloc, &mut bytes, shape, placed, stream)?;
+    put_pairs(alloc, &mut bytes, layout, extent)?;
     pad(&mut bytes)?;
     Ok(Tail { bytes, place })
 }
@@ -184,62 +171,56 @@ fn tail_of(
 #[tactic(auto, unfolding(crate::specs::Attributes::sizes_bytes))]
 fn put_sizes(
     out: &mut Vec<u8>,
-    shape: &Shape,
-    placed: &[Placed],
+    layout: &Layout,
     place: u64,
-    stream: &Stream,
+    extent: &Extent,
 ) -> Result<(), AllocError>
-    requires shape { IsShape shape.now }
-    requires small { AreSmall placed.now }
-    ensures { OnOk result (out.new.items ≡ out.old.items ++ spec.sizes_bytes shape.now placed.now place stream.now) }
+    ensures { OnOk result (out.new.items ≡ out.old.items ++ spec.sizes_bytes layout.now place extent.now) }
 {
-    let lowest = run_of(shape, placed, stream.before).length;
-    let next = lowest + count_of(shape, placed, stream);
+    let lowest = run_of(layout, extent.before).length;
+    let next = lowest + vcn_count(layout, extent);
     put_fields(
         out,
         &[
-            Field::U64(lowest),
-            Field::U64(next.wrapping_sub(1)),
-            Field::U16(place),
-            Field::U16(u64::from(stream.unit)),
-            Field::U32(0),
-            Field::U64(allocated_of(shape, placed, stream)),
-            Field::U64(size_of(shape, placed, stream.size)),
-            Field::U64(size_of(shape, placed, stream.initialised)),
+            Field::U64(lowest), // 0x10 lowest_vcn
+            Field::U64(next.wrapping_sub(1)), // 0x18 highest_vcn
+            Field::U16(place), // 0x20 mapping_pairs_offset
+            Field::U16(u64::from(extent.unit)), // 0x22 compression_unit
+            Field::U32(0), // 0x24 reserved
+            Field::U64(allocated_size_of(layout, extent)), // 0x28 allocated_size
+            Field::U64(size_of(layout, extent.size)), // 0x30 data_size
+            Field::U64(size_of(layout, extent.initialised)), // 0x38 initialized_size
         ],
     )
 }
 
 // Puts an attribute in clusters.
-#[tactic(auto, unfolding(crate::specs::Attributes::nonresident))]
-fn put_stream(
+#[tactic(auto, unfolding(crate::specs::Attributes::nonresident_bytes))]
+fn put_extent(
     alloc: Global,
     out: &mut Vec<u8>,
-    shape: &Shape,
-    placed: &[Placed],
+    layout: &Layout,
     attribute: &Attribute,
     instance: u64,
-    stream: &Stream,
+    extent: &Extent,
 ) -> Result<(), AllocError>
-    requires shape { IsShape shape.now }
-    requires small { AreSmall placed.now }
     ensures { OnOk result (out.new.items ≡ out.old.items
-        ++ spec.nonresident shape.now placed.now attribute.now.kind attribute.now.name.now instance stream.now) }
+        ++ spec.nonresident_bytes layout.now attribute.now.kind attribute.now.name.now instance extent.now) }
 {
-    let tail = tail_of(alloc, shape, placed, attribute.name, stream)?;
+    let tail = tail_of(alloc, layout, attribute.name, extent)?;
     put_fields(
         out,
         &[
-            Field::U32(u64::from(attribute.kind)),
-            Field::U32(64 + tail.bytes.len() as u64),
-            Field::U8(1),
-            Field::U8(attribute.name.len() as u64),
-            Field::U16(64),
-            Field::U16(u64::from(stream.flags)),
-            Field::U16(instance),
+            Field::U32(u64::from(attribute.kind)), // 0x00 type
+            Field::U32(64 + tail.bytes.len() as u64), // 0x04 length
+            Field::U8(1), // 0x08 non_resident
+            Field::U8(attribute.name.len() as u64), // 0x09 name_length
+            Field::U16(64), // 0x0A name_offset
+            Field::U16(u64::from(extent.flags)), // 0x0C flags
+            Field::U16(instance), // 0x0E instance
         ],
     )?;
-    put_sizes(out, shape, placed, tail.place, stream)?;
+    put_sizes(out, layout, tail.place, extent)?;
     out.extend_from_slice(&tail.bytes)
 }
 
@@ -248,20 +229,17 @@ fn put_stream(
 fn put_attribute(
     alloc: Global,
     out: &mut Vec<u8>,
-    shape: &Shape,
-    placed: &[Placed],
+    layout: &Layout,
     instance: u64,
     attribute: &Attribute,
 ) -> Result<(), AllocError>
-    requires shape { IsShape shape.now }
-    requires small { AreSmall placed.now }
     ensures { OnOk result (out.new.items ≡ out.old.items
-        ++ spec.attribute_bytes shape.now placed.now instance (attribute_of attribute.now)) }
+        ++ spec.attribute_bytes layout.now instance (attribute_value attribute.now)) }
 {
-    if let Body::Stream(stream) = &attribute.body {
-        return put_stream(alloc, out, shape, placed, attribute, instance, stream);
+    if let AttributeBody::Extent(extent) = &attribute.body {
+        return put_extent(alloc, out, layout, attribute, instance, extent);
     }
-    let value = value_of(alloc, shape, placed, &attribute.body)?;
+    let value = value_of(alloc, layout, &attribute.body)?;
     put_resident(alloc, out, attribute.kind, attribute.name, instance, &value)
 }
 
@@ -269,18 +247,15 @@ fn put_attribute(
 pub(crate) fn put_attributes(
     alloc: Global,
     out: &mut Vec<u8>,
-    shape: &Shape,
-    placed: &[Placed],
+    layout: &Layout,
     attributes: &[Attribute],
 ) -> Result<(), AllocError>
-    requires shape { IsShape shape.now }
-    requires small { AreSmall placed.now }
     ensures { OnOk result (out.new.items ≡ out.old.items
-        ++ spec.attributes_bytes shape.now placed.now 0 (map attribute_of attributes.now)) }
+        ++ spec.attributes_bytes layout.now 0 (map attribute_value attributes.now)) }
 {
     let mut instance = 0;
     'attributes: for attribute in attributes {
-        put_attribute(alloc, out, shape, placed, instance, attribute)?;
+        put_attribute(alloc, out, layout, instance, attribute)?;
         instance += 1;
     }
     Ok(())

@@ -18,9 +18,9 @@ pub enum Field {
 }
 
 // Puts so many zero bytes at the end.
-#[tactic(auto, unfolding(crate::specs::Fields::zeros))]
+#[tactic(auto, unfolding(crate::specs::Fields::zero_bytes))]
 pub(crate) fn put_zeros(out: &mut Vec<u8>, count: usize) -> Result<(), AllocError>
-    ensures { OnOk result (out.new.items ≡ out.old.items ++ spec.zeros count) }
+    ensures { OnOk result (out.new.items ≡ out.old.items ++ spec.zero_bytes count) }
 {
     'zeros: for place in 0..count {
         out.push(0)?;
@@ -51,9 +51,9 @@ fn put_field(out: &mut Vec<u8>, field: Field) -> Result<(), AllocError>
 }
 
 // Puts the fields at the end, one after the other.
-#[tactic(auto, unfolding(crate::specs::Fields::bytes_of))]
+#[tactic(auto, unfolding(crate::specs::Fields::fields_bytes))]
 pub(crate) fn put_fields(out: &mut Vec<u8>, fields: &[Field]) -> Result<(), AllocError>
-    ensures { OnOk result (out.new.items ≡ out.old.items ++ spec.bytes_of fields.now) }
+    ensures { OnOk result (out.new.items ≡ out.old.items ++ spec.fields_bytes fields.now) }
 {
     'fields: for field in fields {
         put_field(out, *field)?;
@@ -62,18 +62,18 @@ pub(crate) fn put_fields(out: &mut Vec<u8>, fields: &[Field]) -> Result<(), Allo
 }
 
 // Puts zeros at the end, up to a multiple of 8.
-#[tactic(auto, unfolding(crate::specs::Fields::padded))]
+#[tactic(auto, unfolding(crate::specs::Fields::with_padding))]
 pub(crate) fn pad(out: &mut Vec<u8>) -> Result<(), AllocError>
-    ensures { OnOk result (out.new.items ≡ spec.padded out.old.items) }
+    ensures { OnOk result (out.new.items ≡ spec.with_padding out.old.items) }
 {
     let count = (8 - out.len() % 8) % 8;
     put_zeros(out, count)
 }
 
 // Cuts the bytes to a size, or puts zeros at their end up to it.
-#[tactic(auto, unfolding(crate::specs::Fields::sized))]
-pub(crate) fn size_to(out: &mut Vec<u8>, size: usize) -> Result<(), AllocError>
-    ensures { OnOk result (out.new.items ≡ spec.sized size out.old.items) }
+#[tactic(auto, unfolding(crate::specs::Fields::with_length))]
+pub(crate) fn cut_or_fill(out: &mut Vec<u8>, size: usize) -> Result<(), AllocError>
+    ensures { OnOk result (out.new.items ≡ spec.with_length size out.old.items) }
 {
     out.truncate(size);
     let count = size - out.len();
@@ -81,9 +81,9 @@ pub(crate) fn size_to(out: &mut Vec<u8>, size: usize) -> Result<(), AllocError>
 }
 
 // Puts a text of ASCII at the end, in UTF-16LE.
-#[tactic(auto, unfolding(crate::specs::Fields::utf16))]
+#[tactic(auto, unfolding(crate::specs::Fields::utf16_bytes))]
 pub(crate) fn put_letters(out: &mut Vec<u8>, letters: &[u8]) -> Result<(), AllocError>
-    ensures { OnOk result (out.new.items ≡ out.old.items ++ spec.utf16 letters.now) }
+    ensures { OnOk result (out.new.items ≡ out.old.items ++ spec.utf16_bytes letters.now) }
 {
     'letters: for letter in letters {
         put_number(out, 2, u64::from(*letter))?;

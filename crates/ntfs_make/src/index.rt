@@ -1,14 +1,13 @@
 //! Index entries, index roots and the block of the root's index.
 
 ghost use Rattle.std.specs.Prelude.{◌≡◌, ◌++◌, ◌≤◌, OnOk, IfOk, map};
-ghost use Rattle.ntfs_make.specs.Shape.{IsShape};
-ghost use Rattle.ntfs_make.specs.Table.{name_of, root_of, indexed_of};
+ghost use Rattle.ntfs_make.specs.Table.{name_value, root_value, root_name_value};
 ghost use Rattle.ntfs_make.specs.Index as spec;
 
-use crate::field::{Field, pad, put_fields, put_letters, size_to};
-use crate::names::names;
-use crate::shape::Shape;
-use crate::table::{FileName, Indexed, Root};
+use crate::field::{Field, pad, put_fields, put_letters, cut_or_fill};
+use crate::root_names::root_names;
+use crate::layout::Layout;
+use crate::table::{FileName, RootName, Root};
 use ntfs_fixup::refix;
 use std::alloc::{AllocError, Global};
 
@@ -20,21 +19,21 @@ pub(crate) fn reference(number: u32) -> u64
 }
 
 // Puts a file name as attributes and index entries have it.
-#[tactic(auto, unfolding(crate::specs::Index::name_bytes))]
+#[tactic(auto, unfolding(crate::specs::Index::file_name_bytes))]
 pub(crate) fn put_name(out: &mut Vec<u8>, name: &FileName) -> Result<(), AllocError>
-    ensures { OnOk result (out.new.items ≡ out.old.items ++ spec.name_bytes (name_of name.now)) }
+    ensures { OnOk result (out.new.items ≡ out.old.items ++ spec.file_name_bytes (name_value name.now)) }
 {
     put_fields(
         out,
         &[
-            Field::U64(reference(name.parent)),
-            Field::Zeros(32),
-            Field::U64(0),
-            Field::U64(0),
-            Field::U32(0),
-            Field::U32(0),
-            Field::U8(name.letters.len() as u64),
-            Field::U8(u64::from(name.space)),
+            Field::U64(reference(name.parent)), // 0x00 parent_directory
+            Field::Zeros(32), // 0x08 creation_time, last_data_change_time, last_mft_change_time, last_access_time
+            Field::U64(0), // 0x28 allocated_size
+            Field::U64(0), // 0x30 data_size
+            Field::U32(0), // 0x38 file_attributes
+            Field::U32(0), // 0x3C packed_ea_size
+            Field::U8(name.letters.len() as u64), // 0x40 file_name_length
+            Field::U8(u64::from(name.space)), // 0x41 file_name_type
         ],
     )?;
     put_letters(out, name.letters)
@@ -48,7 +47,7 @@ fn put_entry(
     number: u32,
     name: &FileName,
 ) -> Result<(), AllocError>
-    ensures { OnOk result (out.new.items ≡ out.old.items ++ spec.entry_bytes number (name_of name.now)) }
+    ensures { OnOk result (out.new.items ≡ out.old.items ++ spec.entry_bytes number (name_value name.now)) }
 {
     let mut key = Vec::new(alloc);
     put_name(&mut key, name)?;
@@ -57,11 +56,11 @@ fn put_entry(
     put_fields(
         out,
         &[
-            Field::U64(reference(number)),
-            Field::U16(16 + key.len() as u64),
-            Field::U16(size),
-            Field::U16(0),
-            Field::U16(0),
+            Field::U64(reference(number)), // 0x00 indexed_file
+            Field::U16(16 + key.len() as u64), // 0x08 length
+            Field::U16(size), // 0x0A key_length
+            Field::U16(0), // 0x0C flags
+            Field::U16(0), // 0x0E reserved
         ],
     )?;
     out.extend_from_slice(&key)
@@ -75,11 +74,11 @@ fn put_end(out: &mut Vec<u8>) -> Result<(), AllocError>
     put_fields(
         out,
         &[
-            Field::U64(0),
-            Field::U16(16),
-            Field::U16(0),
-            Field::U16(2),
-            Field::U16(0),
+            Field::U64(0), // 0x00 indexed_file
+            Field::U16(16), // 0x08 length
+            Field::U16(0), // 0x0A key_length
+            Field::U16(2), // 0x0C flags
+            Field::U16(0), // 0x0E reserved
         ],
     )
 }
@@ -92,12 +91,12 @@ fn put_child(out: &mut Vec<u8>) -> Result<(), AllocError>
     put_fields(
         out,
         &[
-            Field::U64(0),
-            Field::U16(24),
-            Field::U16(0),
-            Field::U16(3),
-            Field::U16(0),
-            Field::U64(0),
+            Field::U64(0), // 0x00 indexed_file
+            Field::U16(24), // 0x08 length
+            Field::U16(0), // 0x0A key_length
+            Field::U16(3), // 0x0C flags
+            Field::U16(0), // 0x0E reserved
+            Field::U64(0), // 0x10 vcn
         ],
     )
 }
@@ -105,7 +104,7 @@ fn put_child(out: &mut Vec<u8>) -> Result<(), AllocError>
 // The entries of a root.
 #[tactic(auto, unfolding(crate::specs::Index::root_entries))]
 fn root_entries(alloc: Global, root: &Root) -> Result<Vec<u8>, AllocError>
-    ensures { IfOk result (λ entries. entries.items ≡ spec.root_entries (root_of root.now)) }
+    ensures { IfOk result (λ entries. entries.items ≡ spec.root_entries (root_value root.now)) }
 {
     let mut entries = Vec::new(alloc);
     match root {
@@ -135,7 +134,7 @@ fn clusters_per_block(cluster: u64) -> u64
 // Whether the node has a child.
 #[tactic(auto, unfolding(crate::specs::Index::flag_of))]
 fn flag_of(root: &Root) -> u64
-    ensures { result ≡ spec.flag_of (root_of root.now) }
+    ensures { result ≡ spec.flag_of (root_value root.now) }
 {
     match root {
         Root::Child => 1,
@@ -149,27 +148,26 @@ fn flag_of(root: &Root) -> u64
 pub(crate) fn put_root(
     alloc: Global,
     out: &mut Vec<u8>,
-    shape: &Shape,
+    layout: &Layout,
     root: &Root,
 ) -> Result<(), AllocError>
-    requires { IsShape shape.now }
-    ensures { OnOk result (out.new.items ≡ out.old.items ++ spec.root_bytes shape.now (root_of root.now)) }
+    ensures { OnOk result (out.new.items ≡ out.old.items ++ spec.root_bytes layout.now (root_value root.now)) }
 {
     let entries = root_entries(alloc, root)?;
     let used = 16 + entries.len() as u64;
     put_fields(
         out,
         &[
-            Field::U32(0x30),
-            Field::U32(1),
-            Field::U32(4096),
-            Field::U8(clusters_per_block(shape.cluster)),
-            Field::Zeros(3),
-            Field::U32(16),
-            Field::U32(used),
-            Field::U32(used),
-            Field::U8(flag_of(root)),
-            Field::Zeros(3),
+            Field::U32(0x30), // 0x00 type
+            Field::U32(1), // 0x04 collation_rule
+            Field::U32(4096), // 0x08 index_block_size
+            Field::U8(clusters_per_block(layout.shape().cluster)), // 0x0C clusters_per_index_block
+            Field::Zeros(3), // 0x0D reserved
+            Field::U32(16), // 0x10 entries_offset
+            Field::U32(used), // 0x14 index_length
+            Field::U32(used), // 0x18 allocated_size
+            Field::U8(flag_of(root)), // 0x1C flags
+            Field::Zeros(3), // 0x1D reserved
         ],
     )?;
     out.extend_from_slice(&entries)
@@ -177,12 +175,12 @@ pub(crate) fn put_root(
 
 // The entries of these names, and the end.
 #[tactic(auto, unfolding(crate::specs::Index::entries_of))]
-fn entries_of(alloc: Global, names: &[Indexed]) -> Result<Vec<u8>, AllocError>
-    ensures { IfOk result (λ entries. entries.items ≡ spec.entries_of (map indexed_of names.now)) }
+fn entries_of(alloc: Global, names: &[RootName]) -> Result<Vec<u8>, AllocError>
+    ensures { IfOk result (λ entries. entries.items ≡ spec.entries_of (map root_name_value names.now)) }
 {
     let mut entries = Vec::new(alloc);
-    'names: for indexed in names {
-        put_entry(alloc, &mut entries, indexed.number, &indexed.name)?;
+    'names: for one in names {
+        put_entry(alloc, &mut entries, one.number, &one.name)?;
     }
     put_end(&mut entries)?;
     Ok(entries)
@@ -193,21 +191,21 @@ fn entries_of(alloc: Global, names: &[Indexed]) -> Result<Vec<u8>, AllocError>
 fn put_index(alloc: Global, out: &mut Vec<u8>) -> Result<(), AllocError>
     ensures { OnOk result (out.new.items ≡ out.old.items ++ spec.index_text) }
 {
-    let entries = entries_of(alloc, names())?;
+    let entries = entries_of(alloc, root_names())?;
     put_fields(
         out,
         &[
-            Field::U32(0x5844_4E49),
-            Field::U16(0x28),
-            Field::U16(9),
-            Field::U64(0),
-            Field::U64(0),
-            Field::U32(0x28),
-            Field::U32(0x28 + entries.len() as u64),
-            Field::U32(4096 - 0x18),
-            Field::U8(0),
-            Field::Zeros(3),
-            Field::Zeros(0x18),
+            Field::U32(0x5844_4E49), // 0x00 magic
+            Field::U16(0x28), // 0x04 usa_ofs
+            Field::U16(9), // 0x06 usa_count
+            Field::U64(0), // 0x08 lsn
+            Field::U64(0), // 0x10 index_block_vcn
+            Field::U32(0x28), // 0x18 entries_offset
+            Field::U32(0x28 + entries.len() as u64), // 0x1C index_length
+            Field::U32(4096 - 0x18), // 0x20 allocated_size
+            Field::U8(0), // 0x24 flags
+            Field::Zeros(3), // 0x25 reserved
+            Field::Zeros(0x18), // 0x28 the update sequence array, up to the entries
         ],
     )?;
     out.extend_from_slice(&entries)
@@ -220,7 +218,7 @@ pub(crate) fn index_block(alloc: Global) -> Result<Vec<u8>, AllocError>
 {
     let mut block = Vec::new(alloc);
     put_index(alloc, &mut block)?;
-    size_to(&mut block, 4096)?;
+    cut_or_fill(&mut block, 4096)?;
     refix(&mut block);
     Ok(block)
 }

@@ -1,39 +1,42 @@
 //! Making a volume.
 
 ghost use Rattle.std.specs.Prelude.{◌≡◌, ◌≤◌, ◌+◌, ◌*◌, map, replicate, OnOk, OnErr, IsTrue, [], ◌∷◌};
+ghost use Rattle.ntfs_base.specs.Frames.{OnlyWrites};
 ghost use Rattle.ntfs_base.specs.Writes.{Wrote};
 ghost use Rattle.ntfs_make.specs.Shape.{IsShape, shape_of};
-ghost use Rattle.ntfs_make.specs.Parts.{AreSmall};
-ghost use Rattle.ntfs_make.specs.Made as spec;
+ghost use Rattle.ntfs_make.specs.Areas.{areas_of};
+ghost use Rattle.ntfs_make.specs.Volume as spec;
 ghost use Rattle.ntfs_make.specs.Left.{IsZeroOrMade};
 
-use crate::boot::put_boot;
-use crate::content::content_of;
+use crate::boot::boot_sector;
 use crate::fault::MakeFault;
-use crate::place::place;
+use crate::layout::Layout;
 use crate::shape::{Shape, sectors};
-use crate::table::Placed;
+use crate::stream::{bytes_between, stream_part};
+use crate::table::Area;
 use ntfs_base::Image;
 use std::alloc::Global;
 
-// Writes what stands in a part.
-fn write_part<G: Image>(
+// Writes what stands in an area.
+#[tactic(auto, unfolding(crate::specs::Streams::area_bytes))]
+fn write_area<G: Image>(
     alloc: Global,
     image: &mut G,
-    shape: &Shape,
-    placed: &[Placed],
-    part: &Placed,
+    layout: &Layout,
+    area: &Area,
 ) -> Result<(), MakeFault>
-    requires shape { IsShape shape.now }
-    requires small { AreSmall placed.now }
-    requires within { spec.IsWithin shape.now placed.now part.now }
-    requires size { (G.seen image.old).size ≡ (shape.now.clusters + 1) * shape.now.cluster }
-    ensures wrote { Wrote (spec.part_write shape.now placed.now part.now ∷ []) (G.seen image.old) result (G.seen image.new) }
-    ensures cause { spec.MakeCause (G.faults image.old) (G.faults image.new) result }
+    requires lies { spec.LiesInVolume layout.now area.now }
+    requires size { (G.seen image.old).size ≡ (layout.now.clusters + 1) * layout.now.cluster }
+    ensures wrote { Wrote (spec.area_write layout.now area.now ∷ []) (G.seen image.old) result (G.seen image.new) }
+    ensures writes { OnlyWrites G.Image spec.make_origin image.old image.new result }
 {
-    let content = content_of(alloc, shape, placed, part)?;
+    let cluster = layout.shape().cluster;
+    let from = area.first_vcn * cluster;
+    let count = area.length * cluster;
+    let part = stream_part(alloc, layout, area.content, from, count)?;
+    let bytes = bytes_between(&part.bytes, from - part.place, count);
     image
-        .write_at(part.start * shape.cluster, &content)
+        .write_at(area.start * cluster, bytes)
         .map_err(|_| MakeFault::WriteFault)
 }
 
@@ -41,37 +44,31 @@ fn write_part<G: Image>(
 fn write_copy<G: Image>(
     alloc: Global,
     image: &mut G,
-    shape: &Shape,
-    placed: &[Placed],
+    layout: &Layout,
 ) -> Result<(), MakeFault>
-    requires shape { IsShape shape.now }
-    requires size { (G.seen image.old).size ≡ (shape.now.clusters + 1) * shape.now.cluster }
-    ensures wrote { Wrote (spec.copy_write shape.now placed.now ∷ []) (G.seen image.old) result (G.seen image.new) }
-    ensures cause { spec.MakeCause (G.faults image.old) (G.faults image.new) result }
+    requires size { (G.seen image.old).size ≡ (layout.now.clusters + 1) * layout.now.cluster }
+    ensures wrote { Wrote (spec.copy_write layout.now ∷ []) (G.seen image.old) result (G.seen image.new) }
+    ensures writes { OnlyWrites G.Image spec.make_origin image.old image.new result }
 {
-    let mut boot = Vec::new(alloc);
-    put_boot(&mut boot, shape, placed)?;
+    let boot = boot_sector(alloc, layout)?;
     image
-        .write_at(sectors(shape) * 512, &boot)
+        .write_at(sectors(&layout.shape()) * 512, &boot)
         .map_err(|_| MakeFault::WriteFault)
 }
 
-// Writes what stands in all parts.
-fn write_parts<G: Image>(
+// Writes what stands in all areas.
+fn write_areas<G: Image>(
     alloc: Global,
     image: &mut G,
-    shape: &Shape,
-    placed: &[Placed],
+    layout: &Layout,
 ) -> Result<(), MakeFault>
-    requires shape { IsShape shape.now }
-    requires small { AreSmall placed.now }
-    requires within { spec.AreWithin shape.now placed.now }
-    requires size { (G.seen image.old).size ≡ (shape.now.clusters + 1) * shape.now.cluster }
-    ensures wrote { Wrote (map (spec.part_write shape.now placed.now) placed.now) (G.seen image.old) result (G.seen image.new) }
-    ensures cause { spec.MakeCause (G.faults image.old) (G.faults image.new) result }
+    requires { (G.seen image.old).size ≡ (layout.now.clusters + 1) * layout.now.cluster }
+    ensures wrote { Wrote (map (spec.area_write layout.now) (areas_of layout.now)) (G.seen image.old) result (G.seen image.new) }
+    ensures writes { OnlyWrites G.Image spec.make_origin image.old image.new result }
 {
-    'parts: for part in placed {
-        write_part(alloc, image, shape, placed, part)?;
+    let areas = layout.areas();
+    'areas: for area in areas {
+        write_area(alloc, image, layout, area)?;
     }
     Ok(())
 }
@@ -89,10 +86,10 @@ pub fn make<G: Image>(
     requires size { (G.seen image.old).size ≡ (clusters + 1) * cluster }
     requires zeros { IsTrue (G.seen image.old).is_told → (G.seen image.old).content ≡ replicate ((clusters + 1) * cluster) 0 }
     // All writes are made, or, after a fault, those of a front; all but the content stays.
-    ensures wrote { Wrote (spec.made_writes seed clusters cluster) (G.seen image.old) result (G.seen image.new) }
+    ensures wrote { Wrote (spec.volume_writes seed clusters cluster) (G.seen image.old) result (G.seen image.new) }
     // The count of write faults rose where a write failed, and none fell.
-    ensures cause { spec.MakeCause (G.faults image.old) (G.faults image.new) result }
-    ensures made { OnOk result (IsTrue (G.seen image.old).is_told → (G.seen image.new).content ≡ spec.made seed clusters cluster) }
+    ensures writes { OnlyWrites G.Image spec.make_origin image.old image.new result }
+    ensures made { OnOk result (IsTrue (G.seen image.old).is_told → (G.seen image.new).content ≡ spec.volume_bytes_of seed clusters cluster) }
     // After a fault each byte is zero or that of the volume.
     ensures left { OnErr result (IsTrue (G.seen image.old).is_told → IsZeroOrMade seed clusters cluster (G.seen image.new).content) }
 {
@@ -101,7 +98,7 @@ pub fn make<G: Image>(
         clusters: u64::from(clusters),
         cluster: u64::from(cluster),
     };
-    let placed = place(alloc, &shape)?;
-    write_parts(alloc, image, &shape, &placed)?;
-    write_copy(alloc, image, &shape, &placed)
+    let layout = Layout::new(alloc, shape)?;
+    write_areas(alloc, image, &layout)?;
+    write_copy(alloc, image, &layout)
 }

@@ -1,27 +1,25 @@
 //! File records.
 
 ghost use Rattle.std.specs.Prelude.{◌≡◌, ◌++◌, ◌<◌, ◌^◌, OnOk, IfOk, map, flat_map};
-ghost use Rattle.ntfs_make.specs.Shape.{IsShape};
-ghost use Rattle.ntfs_make.specs.Parts.{AreSmall};
-ghost use Rattle.ntfs_make.specs.Table.{attribute_of, row_of};
+ghost use Rattle.ntfs_make.specs.Table.{attribute_value, row_value};
 ghost use Rattle.ntfs_make.specs.Records as spec;
 
 use crate::attribute::put_attributes;
-use crate::field::{Field, put_fields, put_zeros, size_to};
+use crate::field::{Field, put_fields, put_zeros, cut_or_fill};
 use crate::index::reference;
-use crate::shape::Shape;
-use crate::table::{Attribute, Body, Placed, Row};
+use crate::layout::Layout;
+use crate::table::{Attribute, AttributeBody, Row};
 use ntfs_fixup::refix;
 use std::alloc::{AllocError, Global};
 
 // How many names a record has.
-#[tactic(auto, unfolding(crate::specs::Records::links_of))]
-fn links_of(attributes: &[Attribute]) -> u64
-    ensures { result ≡ spec.links_of (map attribute_of attributes.now) }
+#[tactic(auto, unfolding(crate::specs::Records::link_count))]
+fn link_count(attributes: &[Attribute]) -> u64
+    ensures { result ≡ spec.link_count (map attribute_value attributes.now) }
 {
     let mut links = 0;
     'attributes: for attribute in attributes {
-        if let Body::Name(_) = attribute.body {
+        if let AttributeBody::Name(_) = attribute.body {
             links += 1;
         }
     }
@@ -29,8 +27,8 @@ fn links_of(attributes: &[Attribute]) -> u64
 }
 
 // The base reference of a record: 0 where it is a base record itself.
-fn base_of(base: Option<u32>) -> u64
-    ensures { result ≡ spec.base_of base }
+fn base_reference(base: Option<u32>) -> u64
+    ensures { result ≡ spec.base_reference base }
 {
     match base {
         Some(record) => reference(record),
@@ -42,25 +40,25 @@ fn base_of(base: Option<u32>) -> u64
 #[tactic(auto, unfolding(crate::specs::Records::header_bytes))]
 fn put_header(out: &mut Vec<u8>, row: &Row, size: u64) -> Result<(), AllocError>
     requires { size < 2 ^ 63 }
-    ensures { OnOk result (out.new.items ≡ out.old.items ++ spec.header_bytes (row_of row.now) size) }
+    ensures { OnOk result (out.new.items ≡ out.old.items ++ spec.header_bytes (row_value row.now) size) }
 {
     put_fields(
         out,
         &[
-            Field::U32(0x454C_4946),
-            Field::U16(0x30),
-            Field::U16(3),
-            Field::U64(0),
-            Field::U16(1),
-            Field::U16(links_of(row.attributes)),
-            Field::U16(0x38),
-            Field::U16(u64::from(row.flags)),
-            Field::U32(0x38 + size + 8),
-            Field::U32(1024),
-            Field::U64(base_of(row.base)),
-            Field::U16(row.attributes.len() as u64),
-            Field::U16(0),
-            Field::U32(u64::from(row.number)),
+            Field::U32(0x454C_4946), // 0x00 magic
+            Field::U16(0x30), // 0x04 usa_ofs
+            Field::U16(3), // 0x06 usa_count
+            Field::U64(0), // 0x30 the update sequence array, up to the first attribute // 0x08 lsn
+            Field::U16(1), // 0x10 sequence_number
+            Field::U16(link_count(row.attributes)), // 0x12 link_count
+            Field::U16(0x38), // 0x14 attrs_offset
+            Field::U16(u64::from(row.flags)), // 0x16 flags
+            Field::U32(0x38 + size + 8), // 0x18 bytes_in_use
+            Field::U32(1024), // 0x1C bytes_allocated
+            Field::U64(base_reference(row.base)), // 0x20 base_mft_record
+            Field::U16(row.attributes.len() as u64), // 0x28 next_attr_instance
+            Field::U16(0), // 0x2A reserved
+            Field::U32(u64::from(row.number)), // 0x2C mft_record_number
             Field::U64(0),
         ],
     )
@@ -71,59 +69,54 @@ fn put_header(out: &mut Vec<u8>, row: &Row, size: u64) -> Result<(), AllocError>
 fn put_text(
     alloc: Global,
     out: &mut Vec<u8>,
-    shape: &Shape,
-    placed: &[Placed],
+    layout: &Layout,
     row: &Row,
 ) -> Result<(), AllocError>
-    requires shape { IsShape shape.now }
-    requires small { AreSmall placed.now }
-    ensures { OnOk result (out.new.items ≡ out.old.items ++ spec.record_text shape.now placed.now (row_of row.now)) }
+    ensures { OnOk result (out.new.items ≡ out.old.items ++ spec.record_text layout.now (row_value row.now)) }
 {
     let mut attributes = Vec::new(alloc);
-    put_attributes(alloc, &mut attributes, shape, placed, row.attributes)?;
+    put_attributes(alloc, &mut attributes, layout, row.attributes)?;
     put_header(out, row, attributes.len() as u64)?;
     out.extend_from_slice(&attributes)?;
     put_fields(out, &[Field::U32(0xFFFF_FFFF), Field::U32(0)])
 }
 
 // A record.
-#[tactic(auto, unfolding(crate::specs::Records::record_bytes))]
+#[tactic(auto, unfolding(crate::specs::Records::record_of_row))]
 fn record_of(
     alloc: Global,
-    shape: &Shape,
-    placed: &[Placed],
+    layout: &Layout,
     row: &Row,
 ) -> Result<Vec<u8>, AllocError>
-    requires shape { IsShape shape.now }
-    requires small { AreSmall placed.now }
-    ensures { IfOk result (λ bytes. bytes.items ≡ spec.record_bytes shape.now placed.now (row_of row.now)) }
+    ensures { IfOk result (λ bytes. bytes.items ≡ spec.record_of_row layout.now (row_value row.now)) }
 {
     let mut record = Vec::with_capacity(alloc, 1024)?;
     if row.flags == 0 {
         put_zeros(&mut record, 1024)?;
     } else {
-        put_text(alloc, &mut record, shape, placed, row)?;
-        size_to(&mut record, 1024)?;
+        put_text(alloc, &mut record, layout, row)?;
+        cut_or_fill(&mut record, 1024)?;
         refix(&mut record);
     }
     Ok(record)
 }
 
-// Puts records at the end.
+// Puts the records of the rows from a place on, up to another, as far as there are any.
 pub(crate) fn put_records(
     alloc: Global,
     out: &mut Vec<u8>,
-    shape: &Shape,
-    placed: &[Placed],
+    layout: &Layout,
     rows: &[Row],
+    first: usize,
+    last: usize,
 ) -> Result<(), AllocError>
-    requires shape { IsShape shape.now }
-    requires small { AreSmall placed.now }
     ensures { OnOk result (out.new.items ≡ out.old.items
-        ++ flat_map (spec.record_bytes shape.now placed.now) (map row_of rows.now)) }
+        ++ spec.records_bytes layout.now (spec.rows_between first last (map row_value rows.now))) }
 {
-    'rows: for row in rows {
-        let record = record_of(alloc, shape, placed, row)?;
+    let end = last.min(rows.len());
+    let some = &rows[first.min(end)..end];
+    'rows: for row in some {
+        let record = record_of(alloc, layout, row)?;
         out.extend_from_slice(&record)?;
     }
     Ok(())

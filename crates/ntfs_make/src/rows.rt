@@ -1,78 +1,81 @@
 //! The file records, in order of their number, with their names, attributes and streams.
 
 ghost use Rattle.std.specs.Prelude.{◌≡◌, map, length};
-ghost use Rattle.ntfs_make.specs.Table.{row_of};
+ghost use Rattle.ntfs_make.specs.Table.{row_value};
 ghost use Rattle.ntfs_make.specs.Rows as spec;
 
-use crate::table::{Attribute, Body, Cells, FileName, Listed, Lowest, Root, Row, Size, Stream};
+use crate::table::{Attribute, AttributeBody, Extent, FileName, ListEntry, LowestVcn, PlannedRun, Root, Row, Size};
 
 // $STANDARD_INFORMATION.
 macro_rules! standard {
     () => {
-        Attribute { kind: 0x10, name: b"", body: Body::Zeros(72) }
+        Attribute { kind: 0x10, name: b"", body: AttributeBody::Zeros(72) }
     };
 }
 
 // $FILE_NAME.
 macro_rules! file_name {
     ($parent:expr, $space:expr, $letters:expr) => {
-        Attribute { kind: 0x30, name: b"", body: Body::Name(FileName { parent: $parent, space: $space, letters: $letters }) }
+        Attribute { kind: 0x30, name: b"", body: AttributeBody::Name(FileName { parent: $parent, space: $space, letters: $letters }) }
     };
 }
 
 // A resident attribute of these bytes.
 macro_rules! value {
     ($kind:expr, $name:expr, $value:expr) => {
-        Attribute { kind: $kind, name: $name, body: Body::Bytes($value) }
+        Attribute { kind: $kind, name: $name, body: AttributeBody::Bytes($value) }
     };
 }
 
 // $ATTRIBUTE_LIST.
 macro_rules! list {
     ($entries:expr) => {
-        Attribute { kind: 0x20, name: b"", body: Body::List($entries) }
+        Attribute { kind: 0x20, name: b"", body: AttributeBody::List($entries) }
     };
 }
 
-macro_rules! listed {
+macro_rules! list_entry {
     ($kind:expr, $lowest:expr, $record:expr, $instance:expr) => {
-        Listed { kind: $kind, lowest: $lowest, number: $record, instance: $instance }
+        ListEntry { kind: $kind, lowest: $lowest, number: $record, instance: $instance }
     };
 }
 
 // $INDEX_ROOT of a directory.
 macro_rules! root {
     ($root:expr) => {
-        Attribute { kind: 0x90, name: b"$I30", body: Body::Root($root) }
+        Attribute { kind: 0x90, name: b"$I30", body: AttributeBody::Root($root) }
     };
 }
 
 // An attribute in clusters.
-macro_rules! stream {
-    ($kind:expr, $name:expr, $stream:expr) => {
-        Attribute { kind: $kind, name: $name, body: Body::Stream($stream) }
+macro_rules! extent {
+    ($kind:expr, $name:expr, $extent:expr) => {
+        Attribute { kind: $kind, name: $name, body: AttributeBody::Extent($extent) }
     };
 }
 
-// The unnamed $DATA of one run, of one size.
-macro_rules! whole {
-    ($cells:expr, $size:expr) => {
-        stream!(
-            0x80,
-            b"",
-            Stream {
-                flags: 0,
-                unit: 0,
-                held: None,
-                before: Cells::Nothing,
-                first: $cells,
-                second: Cells::Nothing,
-                third: Cells::Nothing,
-                behind: Cells::Nothing,
-                size: $size,
-                initialised: $size
-            }
-        )
+// An extent of one run, of a stream of one size, with what stands before and behind it in the stream.
+macro_rules! one_run {
+    ($before:expr, $run:expr, $behind:expr, $size:expr) => {
+        Extent {
+            flags: 0,
+            unit: 0,
+            compressed_size: None,
+            before: $before,
+            first: $run,
+            second: PlannedRun::NoRun,
+            third: PlannedRun::NoRun,
+            behind: $behind,
+            size: $size,
+            initialised: $size
+        }
+    };
+}
+
+// The unnamed $DATA of one run and one size.
+macro_rules! data {
+    ($run:expr, $size:expr) => {
+        extent!(0x80, b"", one_run!(PlannedRun::NoRun, $run, PlannedRun::NoRun, $size))
     };
 }
 
@@ -104,34 +107,23 @@ static SYSTEM: [Row; 16] = [
         &[
             standard!(),
             list!(&[
-                listed!(0x10, Lowest::Zero, 0, 0),
-                listed!(0x30, Lowest::Zero, 0, 2),
-                listed!(0x80, Lowest::Zero, 0, 3),
-                listed!(0x80, Lowest::Behind(1), 28, 0),
-                listed!(0xB0, Lowest::Zero, 0, 4)
+                list_entry!(0x10, LowestVcn::Zero, 0, 0),
+                list_entry!(0x30, LowestVcn::Zero, 0, 2),
+                list_entry!(0x80, LowestVcn::Zero, 0, 3),
+                list_entry!(0x80, LowestVcn::Behind(1), 28, 0),
+                list_entry!(0xB0, LowestVcn::Zero, 0, 4)
             ]),
             file_name!(5, 3, b"$MFT"),
-            stream!(
+            extent!(
                 0x80,
                 b"",
-                Stream {
-                    flags: 0x0000,
-                    unit: 0,
-                    held: None,
-                    before: Cells::Nothing,
-                    first: Cells::Part(1),
-                    second: Cells::Nothing,
-                    third: Cells::Nothing,
-                    behind: Cells::Part(7),
-                    size: Size::Bytes(65536),
-                    initialised: Size::Bytes(65536)
-                }
+                one_run!(PlannedRun::NoRun, PlannedRun::InArea(1), PlannedRun::InArea(7), Size::Exact(65536))
             ),
             value!(0xB0, b"", b"\xff\x0f\xff\x1f\xff\xff\0\0"),
         ]
     ),
-    file!(1, b"$MFTMirr", whole!(Cells::Part(2), Size::Bytes(4096))),
-    file!(2, b"$LogFile", whole!(Cells::Part(3), Size::Bytes(65536))),
+    file!(1, b"$MFTMirr", data!(PlannedRun::InArea(2), Size::Exact(4096))),
+    file!(2, b"$LogFile", data!(PlannedRun::InArea(3), Size::Exact(65536))),
     file!(
         3,
         b"$Volume",
@@ -146,27 +138,16 @@ static SYSTEM: [Row; 16] = [
             standard!(),
             file_name!(5, 3, b"."),
             root!(Root::Child),
-            stream!(
+            extent!(
                 0xA0,
                 b"$I30",
-                Stream {
-                    flags: 0x0000,
-                    unit: 0,
-                    held: None,
-                    before: Cells::Nothing,
-                    first: Cells::Part(6),
-                    second: Cells::Nothing,
-                    third: Cells::Nothing,
-                    behind: Cells::Nothing,
-                    size: Size::Bytes(4096),
-                    initialised: Size::Bytes(4096)
-                }
+                one_run!(PlannedRun::NoRun, PlannedRun::InArea(6), PlannedRun::NoRun, Size::Exact(4096))
             ),
             value!(0xB0, b"$I30", b"\x01\0\0\0\0\0\0\0"),
         ]
     ),
-    file!(6, b"$Bitmap", whole!(Cells::Part(4), Size::Bitmap)),
-    file!(7, b"$Boot", whole!(Cells::Part(0), Size::Bytes(8192))),
+    file!(6, b"$Bitmap", data!(PlannedRun::InArea(4), Size::Bitmap)),
+    file!(7, b"$Boot", data!(PlannedRun::InArea(0), Size::Exact(8192))),
     row!(
         8,
         1,
@@ -175,26 +156,26 @@ static SYSTEM: [Row; 16] = [
             standard!(),
             file_name!(5, 3, b"$BadClus"),
             value!(0x80, b"", b""),
-            stream!(
+            extent!(
                 0x80,
                 b"$Bad",
-                Stream {
+                Extent {
                     flags: 0x0000,
                     unit: 0,
-                    held: None,
-                    before: Cells::Nothing,
-                    first: Cells::BeforeBad,
-                    second: Cells::Bad,
-                    third: Cells::BehindBad,
-                    behind: Cells::Nothing,
+                    compressed_size: None,
+                    before: PlannedRun::NoRun,
+                    first: PlannedRun::BeforeBad,
+                    second: PlannedRun::Bad,
+                    third: PlannedRun::BehindBad,
+                    behind: PlannedRun::NoRun,
                     size: Size::Volume,
-                    initialised: Size::Bytes(0)
+                    initialised: Size::Exact(0)
                 }
             ),
         ]
     ),
     file!(9, b"$Secure", value!(0x80, b"", b"")),
-    file!(10, b"$UpCase", whole!(Cells::Part(5), Size::Bytes(131072))),
+    file!(10, b"$UpCase", data!(PlannedRun::InArea(5), Size::Exact(131072))),
     row!(
         11,
         3,
@@ -213,22 +194,22 @@ static SYSTEM: [Row; 16] = [
 
 static KINDS: [Row; 16] = [
     file!(16, b"resident.txt", value!(0x80, b"", b"hello, ntfs\n")),
-    file!(17, b"empty.bin", whole!(Cells::Nothing, Size::Bytes(0))),
+    file!(17, b"empty.bin", data!(PlannedRun::NoRun, Size::Exact(0))),
     file!(
         18,
         b"sparse.bin",
-        stream!(
+        extent!(
             0x80,
             b"",
-            Stream {
+            Extent {
                 flags: 0x8000,
                 unit: 0,
-                held: Some(Size::Part(8)),
-                before: Cells::Nothing,
-                first: Cells::Holes(2),
-                second: Cells::Part(8),
-                third: Cells::Holes(1),
-                behind: Cells::Nothing,
+                compressed_size: Some(Size::InArea(8)),
+                before: PlannedRun::NoRun,
+                first: PlannedRun::Holes(2),
+                second: PlannedRun::InArea(8),
+                third: PlannedRun::Holes(1),
+                behind: PlannedRun::NoRun,
                 size: Size::Clusters(4),
                 initialised: Size::Clusters(4)
             }
@@ -237,38 +218,38 @@ static KINDS: [Row; 16] = [
     file!(
         19,
         b"half.bin",
-        stream!(
+        extent!(
             0x80,
             b"",
-            Stream {
+            Extent {
                 flags: 0x0000,
                 unit: 0,
-                held: None,
-                before: Cells::Nothing,
-                first: Cells::Part(9),
-                second: Cells::Nothing,
-                third: Cells::Nothing,
-                behind: Cells::Nothing,
-                size: Size::Over(5),
-                initialised: Size::Bytes(10)
+                compressed_size: None,
+                before: PlannedRun::NoRun,
+                first: PlannedRun::InArea(9),
+                second: PlannedRun::NoRun,
+                third: PlannedRun::NoRun,
+                behind: PlannedRun::NoRun,
+                size: Size::ClusterAnd(5),
+                initialised: Size::Exact(10)
             }
         )
     ),
     file!(
         20,
         b"packed.bin",
-        stream!(
+        extent!(
             0x80,
             b"",
-            Stream {
+            Extent {
                 flags: 0x0001,
                 unit: 4,
-                held: Some(Size::Part(10)),
-                before: Cells::Nothing,
-                first: Cells::Part(10),
-                second: Cells::Holes(12),
-                third: Cells::Nothing,
-                behind: Cells::Nothing,
+                compressed_size: Some(Size::InArea(10)),
+                before: PlannedRun::NoRun,
+                first: PlannedRun::InArea(10),
+                second: PlannedRun::Holes(12),
+                third: PlannedRun::NoRun,
+                behind: PlannedRun::NoRun,
                 size: Size::Clusters(16),
                 initialised: Size::Clusters(16)
             }
@@ -281,27 +262,16 @@ static KINDS: [Row; 16] = [
         &[
             standard!(),
             list!(&[
-                listed!(0x10, Lowest::Zero, 21, 0),
-                listed!(0x30, Lowest::Zero, 21, 2),
-                listed!(0x80, Lowest::Zero, 21, 3),
-                listed!(0x80, Lowest::Behind(11), 22, 0)
+                list_entry!(0x10, LowestVcn::Zero, 21, 0),
+                list_entry!(0x30, LowestVcn::Zero, 21, 2),
+                list_entry!(0x80, LowestVcn::Zero, 21, 3),
+                list_entry!(0x80, LowestVcn::Behind(11), 22, 0)
             ]),
             file_name!(5, 3, b"listed.bin"),
-            stream!(
+            extent!(
                 0x80,
                 b"",
-                Stream {
-                    flags: 0x0000,
-                    unit: 0,
-                    held: None,
-                    before: Cells::Nothing,
-                    first: Cells::Part(11),
-                    second: Cells::Nothing,
-                    third: Cells::Nothing,
-                    behind: Cells::Part(12),
-                    size: Size::Clusters(2),
-                    initialised: Size::Clusters(2)
-                }
+                one_run!(PlannedRun::NoRun, PlannedRun::InArea(11), PlannedRun::InArea(12), Size::Clusters(2))
             ),
         ]
     ),
@@ -309,21 +279,10 @@ static KINDS: [Row; 16] = [
         22,
         1,
         Some(21),
-        &[stream!(
+        &[extent!(
             0x80,
             b"",
-            Stream {
-                flags: 0x0000,
-                unit: 0,
-                held: None,
-                before: Cells::Part(11),
-                first: Cells::Part(12),
-                second: Cells::Nothing,
-                third: Cells::Nothing,
-                behind: Cells::Nothing,
-                size: Size::Bytes(0),
-                initialised: Size::Bytes(0)
-            }
+            one_run!(PlannedRun::InArea(11), PlannedRun::InArea(12), PlannedRun::NoRun, Size::Exact(0))
         ),]
     ),
     row!(
@@ -388,21 +347,10 @@ static KINDS: [Row; 16] = [
         28,
         1,
         Some(0),
-        &[stream!(
+        &[extent!(
             0x80,
             b"",
-            Stream {
-                flags: 0x0000,
-                unit: 0,
-                held: None,
-                before: Cells::Part(1),
-                first: Cells::Part(7),
-                second: Cells::Nothing,
-                third: Cells::Nothing,
-                behind: Cells::Nothing,
-                size: Size::Bytes(0),
-                initialised: Size::Bytes(0)
-            }
+            one_run!(PlannedRun::InArea(1), PlannedRun::InArea(7), PlannedRun::NoRun, Size::Exact(0))
         ),]
     ),
     unused!(29),
@@ -411,22 +359,22 @@ static KINDS: [Row; 16] = [
 ];
 
 static FILES: [Row; 16] = [
-    file!(32, b"file00", whole!(Cells::Part(13), Size::Part(13))),
-    file!(33, b"file01", whole!(Cells::Part(14), Size::Part(14))),
-    file!(34, b"file02", whole!(Cells::Part(15), Size::Part(15))),
-    file!(35, b"file03", whole!(Cells::Part(16), Size::Part(16))),
-    file!(36, b"file04", whole!(Cells::Part(17), Size::Part(17))),
-    file!(37, b"file05", whole!(Cells::Part(18), Size::Part(18))),
-    file!(38, b"file06", whole!(Cells::Part(19), Size::Part(19))),
-    file!(39, b"file07", whole!(Cells::Part(20), Size::Part(20))),
-    file!(40, b"file08", whole!(Cells::Part(21), Size::Part(21))),
-    file!(41, b"file09", whole!(Cells::Part(22), Size::Part(22))),
-    file!(42, b"file10", whole!(Cells::Part(23), Size::Part(23))),
-    file!(43, b"file11", whole!(Cells::Part(24), Size::Part(24))),
-    file!(44, b"file12", whole!(Cells::Part(25), Size::Part(25))),
-    file!(45, b"file13", whole!(Cells::Part(26), Size::Part(26))),
-    file!(46, b"file14", whole!(Cells::Part(27), Size::Part(27))),
-    file!(47, b"file15", whole!(Cells::Part(28), Size::Part(28))),
+    file!(32, b"file00", data!(PlannedRun::InArea(13), Size::InArea(13))),
+    file!(33, b"file01", data!(PlannedRun::InArea(14), Size::InArea(14))),
+    file!(34, b"file02", data!(PlannedRun::InArea(15), Size::InArea(15))),
+    file!(35, b"file03", data!(PlannedRun::InArea(16), Size::InArea(16))),
+    file!(36, b"file04", data!(PlannedRun::InArea(17), Size::InArea(17))),
+    file!(37, b"file05", data!(PlannedRun::InArea(18), Size::InArea(18))),
+    file!(38, b"file06", data!(PlannedRun::InArea(19), Size::InArea(19))),
+    file!(39, b"file07", data!(PlannedRun::InArea(20), Size::InArea(20))),
+    file!(40, b"file08", data!(PlannedRun::InArea(21), Size::InArea(21))),
+    file!(41, b"file09", data!(PlannedRun::InArea(22), Size::InArea(22))),
+    file!(42, b"file10", data!(PlannedRun::InArea(23), Size::InArea(23))),
+    file!(43, b"file11", data!(PlannedRun::InArea(24), Size::InArea(24))),
+    file!(44, b"file12", data!(PlannedRun::InArea(25), Size::InArea(25))),
+    file!(45, b"file13", data!(PlannedRun::InArea(26), Size::InArea(26))),
+    file!(46, b"file14", data!(PlannedRun::InArea(27), Size::InArea(27))),
+    file!(47, b"file15", data!(PlannedRun::InArea(28), Size::InArea(28))),
 ];
 
 static SPARE: [Row; 16] = [
@@ -448,33 +396,33 @@ static SPARE: [Row; 16] = [
     unused!(63),
 ];
 
-// The files of every volume, and records that they leave free.
-pub(crate) fn system() -> &'static [Row]
-    ensures table { map row_of result.now ≡ spec.system }
+// The files of every volume, and the records that they leave free: those from 0 on.
+pub(crate) fn system_rows() -> &'static [Row]
+    ensures table { map row_value result.now ≡ spec.system_rows }
     ensures count { length result.now ≡ 16 }
 {
     &SYSTEM
 }
 
-// A file of each kind, and the extensions of records.
-pub(crate) fn kinds() -> &'static [Row]
-    ensures table { map row_of result.now ≡ spec.kinds }
+// A file of each kind, and the extensions of records: the records from 16 on.
+pub(crate) fn kind_rows() -> &'static [Row]
+    ensures table { map row_value result.now ≡ spec.kind_rows }
     ensures count { length result.now ≡ 16 }
 {
     &KINDS
 }
 
-// Sixteen files.
-pub(crate) fn files() -> &'static [Row]
-    ensures table { map row_of result.now ≡ spec.files }
+// Sixteen files: the records from 32 on.
+pub(crate) fn file_rows() -> &'static [Row]
+    ensures table { map row_value result.now ≡ spec.file_rows }
     ensures count { length result.now ≡ 16 }
 {
     &FILES
 }
 
-// Records that are not in use.
-pub(crate) fn spare() -> &'static [Row]
-    ensures table { map row_of result.now ≡ spec.spare }
+// Records that are not in use: those from 48 on.
+pub(crate) fn spare_rows() -> &'static [Row]
+    ensures table { map row_value result.now ≡ spec.spare_rows }
     ensures count { length result.now ≡ 16 }
 {
     &SPARE

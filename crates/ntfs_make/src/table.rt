@@ -1,48 +1,47 @@
 //! What the rows of the tables are made of.
 
-/// A part of the volume: how long it is, and what stands in it.
+/// A row of the table of areas: how many clusters an area has, from which VCN on it holds its stream, and what that has.
 #[derive(Clone, Copy)]
-pub struct Part {
-    pub length: Length,
+pub struct AreaRow {
+    pub length: ClusterCount,
+    pub first_vcn: ClusterCount,
     pub content: Content,
 }
 
-/// How long a part is.
+/// A number of clusters.
 #[derive(Clone, Copy)]
-pub enum Length {
-    /// As many clusters as these bytes need.
-    Bytes(u32),
-    /// As many clusters as the bytes of $Bitmap need.
-    Bitmap,
-    /// So many clusters.
-    Clusters(u32),
-    /// The clusters of `fileNN`.
-    File(u32),
+pub enum ClusterCount {
+    /// As many as these bytes need.
+    ForBytes(u32),
+    /// As many as the bytes of $Bitmap need.
+    ForBitmap,
+    Exactly(u32),
+    /// Those of `fileNN`.
+    OfFile(u32),
 }
 
-/// What stands in a part. What is left of its last cluster is zeros.
+/// What a stream in clusters has. Behind it the stream has zeros.
 #[derive(Clone, Copy)]
 pub enum Content {
     Boot,
-    /// The records below 32.
-    FirstRecords,
+    /// All records.
+    Mft,
     /// The records below 4.
     Mirror,
     Log,
     Bitmap,
     UpCase,
     Index,
-    /// The records from 32 on.
-    LastRecords,
-    /// The bytes of a stream of this record, which count up from its number.
-    Stream(u32),
+    /// Bytes that count up from this number, in so many clusters.
+    Counting(u32, ClusterCount),
 }
 
-/// A part at its place: the first cluster, how many there are, and what stands in them.
+/// An area of the volume: its first cluster, how many it has, and the stream that it holds from a VCN on.
 #[derive(Clone, Copy)]
-pub struct Placed {
+pub struct Area {
     pub start: u64,
     pub length: u64,
+    pub first_vcn: u64,
     pub content: Content,
 }
 
@@ -61,24 +60,24 @@ pub struct Row {
 pub struct Attribute {
     pub kind: u32,
     pub name: &'static [u8],
-    pub body: Body,
+    pub body: AttributeBody,
 }
 
 /// What an attribute has.
 #[derive(Clone, Copy)]
-pub enum Body {
+pub enum AttributeBody {
     /// A resident value of so many zeros.
     Zeros(usize),
     /// A resident value of these bytes.
     Bytes(&'static [u8]),
     /// A resident list of attributes.
-    List(&'static [Listed]),
+    List(&'static [ListEntry]),
     /// A resident file name.
     Name(FileName),
     /// A resident index root.
     Root(Root),
-    /// A stream in clusters.
-    Stream(Stream),
+    /// Clusters.
+    Extent(Extent),
 }
 
 /// A file name: the record of its directory, its namespace, and its letters in ASCII.
@@ -91,18 +90,18 @@ pub struct FileName {
 
 /// An entry of an attribute list.
 #[derive(Clone, Copy)]
-pub struct Listed {
+pub struct ListEntry {
     pub kind: u32,
-    pub lowest: Lowest,
+    pub lowest: LowestVcn,
     pub number: u32,
     pub instance: u16,
 }
 
-/// The lowest VCN of a listed attribute.
+/// The lowest VCN that an entry of an attribute list tells.
 #[derive(Clone, Copy)]
-pub enum Lowest {
+pub enum LowestVcn {
     Zero,
-    /// The VCN behind the clusters of this part.
+    /// The VCN behind the clusters of this area.
     Behind(usize),
 }
 
@@ -117,30 +116,30 @@ pub enum Root {
     One(u32, FileName),
 }
 
-/// An extent of a stream: what stands before it in the stream, the three rows of clusters or holes that it has, and what
-/// stands behind it. The sizes are the stream's; an extent that isn't the first tells 0.
+/// An extent of a stream: what stands before it in the stream, the three runs that it has, and what stands behind it. The sizes
+/// are the stream's; an extent that isn't the first tells 0.
 #[derive(Clone, Copy)]
-pub struct Stream {
+pub struct Extent {
     pub flags: u16,
     /// The compression unit.
     pub unit: u16,
     /// The bytes of the clusters, where the extent tells them.
-    pub held: Option<Size>,
-    pub before: Cells,
-    pub first: Cells,
-    pub second: Cells,
-    pub third: Cells,
-    pub behind: Cells,
+    pub compressed_size: Option<Size>,
+    pub before: PlannedRun,
+    pub first: PlannedRun,
+    pub second: PlannedRun,
+    pub third: PlannedRun,
+    pub behind: PlannedRun,
     pub size: Size,
     pub initialised: Size,
 }
 
-/// Clusters in a row, or holes.
+/// A run, before the areas have their places.
 #[derive(Clone, Copy)]
-pub enum Cells {
-    Nothing,
-    /// The clusters of a part.
-    Part(usize),
+pub enum PlannedRun {
+    NoRun,
+    /// The clusters of an area.
+    InArea(usize),
     /// So many holes.
     Holes(u32),
     /// The holes before the bad cluster.
@@ -153,13 +152,13 @@ pub enum Cells {
 /// A number of bytes.
 #[derive(Clone, Copy)]
 pub enum Size {
-    Bytes(u64),
+    Exact(u64),
     /// Those of so many clusters.
     Clusters(u32),
     /// Those of a cluster and so many more.
-    Over(u32),
-    /// Those of the clusters of a part.
-    Part(usize),
+    ClusterAnd(u32),
+    /// Those of the clusters of an area.
+    InArea(usize),
     Bitmap,
     /// Those of all clusters.
     Volume,
@@ -167,7 +166,7 @@ pub enum Size {
 
 /// A name of the root's index, and the record that has it.
 #[derive(Clone, Copy)]
-pub struct Indexed {
+pub struct RootName {
     pub number: u32,
     pub name: FileName,
 }
