@@ -2,21 +2,11 @@
 #![tactic(auto)]
 
 mod arguments;
-mod cat;
-mod info;
-mod make;
-mod message;
-mod number;
-mod run;
-mod status;
-#[cfg(test)]
-mod tests;
-mod words;
 
 use arguments::{ArgumentFault, arguments};
 use ntfs_base::Sink;
 use ntfs_host::{DiskShelf, StdInput, StdMessages, StdOutput};
-use run::run;
+use ntfs_run::run;
 use std::process::ExitCode;
 
 /// The exit status where memory is wanting.

@@ -1,0 +1,320 @@
+//! The line that says why a command was refused.
+ghost use Rattle.std.specs.Prelude.{◌≡◌, ◌≤◌, ◌+◌, ◌++◌, ◌∷◌, [], length, codes, map, string_bytes};
+ghost use Rattle.hex.specs.Hex.{encode_lower};
+ghost use Rattle.std.specs.Int.{w16, w32, to_be_bytes};
+ghost use Rattle.ntfs_base.specs.Sink.{Put};
+ghost use Rattle.ntfs_base.specs.Causes.{SinkCause};
+ghost use Rattle.ntfs_run.specs.Message.{counted, flags_text, lack_text, line_for, message_of, missing_text, name_of, named_in, rule_number, rule_text, status_text, tool_word, type_text, usage_text, without_zeros};
+ghost use Rattle.ntfs_run.specs.Words.{tool_of, word_at};
+
+use crate::status::Status;
+use crate::words::{Tool, tool_name, tool_of};
+use ntfs_base::{Lack, Line, Missing, Named, PutFault, Rule, Sink, UsageKind};
+
+/// Appends the text of a status, up to the name of a file.
+#[tactic(auto, unfolding(crate::specs::Message::status_text))]
+fn push_status(line: &mut Line, status: &Status)
+    requires { length line.old ≤ 20 }
+    ensures value { line.new ≡ line.old ++ status_text status.now }
+    ensures room { length line.new ≤ 220 }
+{
+    match *status {
+        Status::Done => {}
+        Status::Usage { kind } => push_pair(line, b"usage: ", usage_text(kind)),
+        Status::Absent { .. } => push_text(line, b"no such file: "),
+        Status::Present { .. } => push_text(line, b"file exists: "),
+        Status::NotNtfs => push_text(line, b"not an NTFS volume"),
+        Status::BadGeometry { field, value } => push_two(
+            line,
+            b"bad geometry: field ",
+            u64::from(field),
+            b" value ",
+            value,
+        ),
+        Status::ImageShort { len, need } => push_two(
+            line,
+            b"image has ",
+            len,
+            b" bytes, needs ",
+            need,
+        ),
+        Status::Damaged { rule, number } => push_rule(line, b"damaged: rule ", rule, number),
+        Status::Dirty => push_text(line, b"volume is dirty"),
+        Status::ShortClusters { need, free } => {
+            push_two(line, b"needs ", need, b" clusters, ", free);
+            push_text(line, b" are free");
+        }
+        Status::ShortRun { need, longest } => push_two(
+            line,
+            b"needs ",
+            need,
+            b" clusters in a row, longest free run is ",
+            longest,
+        ),
+        Status::ShortRoom { number, need, have } => {
+            push_two(line, b"record ", number, b" needs ", need);
+            push_number(line, b" bytes, has ", u64::from(have));
+        }
+        Status::ShortGeometry { lack, have, need } => {
+            push_pair(line, b"size out of range: ", lack_text(lack));
+            push_number(line, b" has ", have);
+            push_number(line, b", needs ", need);
+        }
+        Status::NotFound { what } => push_missing(line, what),
+        Status::NotPlain { flags } => push_flags(line, b"stream is not plain: flags ", flags),
+        Status::Guarded { number, kind } => {
+            push_number(line, b"record ", number);
+            push_type(line, b" type ", kind);
+            push_text(line, b" may not be written");
+        }
+        Status::TooLong { have, want } => push_two(
+            line,
+            b"stream has room for ",
+            have,
+            b" bytes, source has ",
+            want,
+        ),
+        Status::BadClone { place } => push_number(line, b"bad clone image at byte ", place),
+        Status::ReadFault => push_text(line, b"read fault"),
+        Status::WriteFault => push_text(line, b"write fault"),
+        Status::NoMemory => push_text(line, b"no memory"),
+        Status::CannotMend { rule, number } => push_rule(line, b"cannot mend: rule ", rule, number),
+    }
+}
+
+/// Appends a text of at most 40 bytes.
+fn push_text(line: &mut Line, text: &[u8])
+    requires room { length line.old ≤ 160 }
+    requires short { length text.now ≤ 40 }
+    ensures value { line.new ≡ line.old ++ text.now }
+    ensures room { length line.new ≤ length line.old + 40 }
+{
+    line.push(text);
+}
+
+/// Appends two texts of at most 20 bytes each.
+fn push_pair(line: &mut Line, text: &[u8], more: &[u8])
+    requires room { length line.old ≤ 160 }
+    requires text { length text.now ≤ 20 }
+    requires more { length more.now ≤ 20 }
+    ensures value { line.new ≡ line.old ++ (text.now ++ more.now) }
+    ensures room { length line.new ≤ length line.old + 40 }
+{
+    line.push(text);
+    line.push(more);
+}
+
+/// Appends a text of at most 40 bytes and a number.
+fn push_number(line: &mut Line, text: &[u8], number: u64)
+    requires room { length line.old ≤ 160 }
+    requires short { length text.now ≤ 40 }
+    ensures value { line.new ≡ line.old ++ counted text.now number }
+    ensures room { length line.new ≤ length line.old + (length text.now + 20) }
+{
+    line.push(text);
+    line.push_number(number);
+}
+
+/// Appends two texts of at most 20 and 40 bytes, each with a number.
+fn push_two(line: &mut Line, text: &[u8], number: u64, more: &[u8], other: u64)
+    requires room { length line.old ≤ 100 }
+    requires text { length text.now ≤ 20 }
+    requires more { length more.now ≤ 40 }
+    ensures value { line.new ≡ line.old ++ (counted text.now number ++ counted more.now other) }
+    ensures room { length line.new ≤ length line.old + 100 }
+{
+    push_number(line, text, number);
+    push_number(line, more, other);
+}
+
+/// Appends a text, a rule and a record.
+fn push_rule(line: &mut Line, text: &[u8], rule: Rule, number: u64)
+    requires room { length line.old ≤ 20 }
+    requires short { length text.now ≤ 40 }
+    ensures value { line.new ≡ line.old ++ (text.now ++ rule_text rule number) }
+    ensures room { length line.new ≤ length line.old + 160 }
+{
+    push_text(line, text);
+    push_number(line, b"C", u64::from(rule_number(rule)));
+    push_number(line, b" record ", number);
+}
+
+#[tactic(auto)]
+fn rule_number(rule: Rule) -> u8
+    ensures { result ≡ rule_number rule }
+{
+    match rule {
+        Rule::C1 => 1,
+        Rule::C2 => 2,
+        Rule::C3 => 3,
+        Rule::C4 => 4,
+        Rule::C5 => 5,
+        Rule::C6 => 6,
+        Rule::C7 => 7,
+        Rule::C8 => 8,
+        Rule::C9 => 9,
+        Rule::C10 => 10,
+        Rule::C11 => 11,
+        Rule::C12 => 12,
+        Rule::C13 => 13,
+        Rule::C14 => 14,
+        Rule::C15 => 15,
+        Rule::C16 => 16,
+    }
+}
+
+fn push_missing(line: &mut Line, what: Missing)
+    requires { length line.old ≤ 20 }
+    ensures value { line.new ≡ line.old ++ (codes "not found: " ++ missing_text what) }
+    ensures room { length line.new ≤ 160 }
+{
+    push_text(line, b"not found: ");
+    match what {
+        Missing::Part { index } => push_number(line, b"path part ", index),
+        Missing::Record { number } => push_number(line, b"record ", number),
+        Missing::Stream => push_text(line, b"stream"),
+    }
+}
+
+/// Appends a text and the flags of an attribute in four hexadecimal digits.
+fn push_flags(line: &mut Line, text: &[u8], flags: u16)
+    requires room { length line.old ≤ 20 }
+    requires short { length text.now ≤ 40 }
+    ensures value { line.new ≡ line.old ++ (text.now ++ flags_text flags) }
+    ensures room { length line.new ≤ 160 }
+{
+    push_text(line, text);
+    push_text(line, b"0x");
+    line.push_hex(&flags.to_be_bytes());
+}
+
+/// Appends a text and an attribute type in hexadecimal digits without leading zeros.
+fn push_type(line: &mut Line, text: &[u8], kind: u32)
+    requires room { length line.old ≤ 100 }
+    requires short { length text.now ≤ 20 }
+    ensures value { line.new ≡ line.old ++ (text.now ++ type_text kind) }
+    ensures room { length line.new ≤ length line.old + 60 }
+{
+    let mut digits = Line::new();
+    digits.push_hex(&kind.to_be_bytes());
+    push_pair(line, text, b"0x");
+    push_text(line, without_zeros(digits.as_bytes()));
+}
+
+/// The digits without the zeros in front, but for a last one.
+fn without_zeros(digits: &[u8]) -> &[u8]
+    ensures value { result.now ≡ without_zeros digits.entry.now }
+    ensures room { length result.now ≤ length digits.entry.now }
+{
+    let mut left = digits;
+    'zeros: while left.len() > 1 && left[0] == b'0' {
+        left = &left[1..];
+    }
+    left
+}
+
+fn usage_text(kind: UsageKind) -> &'static [u8]
+    ensures value { result.now ≡ usage_text kind }
+    ensures room { length result.now ≤ 20 }
+{
+    match kind {
+        UsageKind::Tool => b"tool",
+        UsageKind::Line => b"line",
+        UsageKind::Combination => b"combination",
+        UsageKind::Number => b"number",
+        UsageKind::SameName => b"same name",
+    }
+}
+
+fn lack_text(lack: Lack) -> &'static [u8]
+    ensures value { result.now ≡ lack_text lack }
+    ensures room { length result.now ≤ 20 }
+{
+    match lack {
+        Lack::Image => b"image",
+        Lack::Count => b"count",
+        Lack::Boot => b"boot",
+    }
+}
+
+/// Puts the line for a status, and nothing where the work was done. It takes no memory.
+pub fn put_message<E: Sink>(words: &[String], status: &Status, err: &mut E) -> Result<(), PutFault>
+    ensures put { Put (message_of (map string_bytes words.now) status.now) (E.seen err.old) result (E.seen err.new) }
+    ensures cause { SinkCause (E.faults err.old) (E.faults err.new) result }
+{
+    match *status {
+        Status::Done => Ok(()),
+        _ => put_line(words, status, err),
+    }
+}
+
+#[tactic(auto, unfolding(crate::specs::Message::line_for))]
+fn put_line<E: Sink>(words: &[String], status: &Status, err: &mut E) -> Result<(), PutFault>
+    ensures put { Put (line_for (map string_bytes words.now) status.now) (E.seen err.old) result (E.seen err.new) }
+    ensures cause { SinkCause (E.faults err.old) (E.faults err.new) result }
+{
+    let mut front = Line::new();
+    let tool = tool_of(words);
+    front.push(tool_word(tool));
+    front.push(b": ");
+    push_status(&mut front, status);
+    put_three(err, front.as_bytes(), named_in(status, tool, words), b"\n")
+}
+
+/// Puts three texts, one after the other.
+fn put_three<E: Sink>(err: &mut E, front: &[u8], name: &[u8], end: &[u8]) -> Result<(), PutFault>
+    ensures put { Put (front.now ++ (name.now ++ end.now)) (E.seen err.old) result (E.seen err.new) }
+    ensures cause { SinkCause (E.faults err.old) (E.faults err.new) result }
+{
+    err.put(front)?;
+    put_both(err, name, end)
+}
+
+fn put_both<E: Sink>(err: &mut E, name: &[u8], end: &[u8]) -> Result<(), PutFault>
+    ensures put { Put (name.now ++ end.now) (E.seen err.old) result (E.seen err.new) }
+    ensures cause { SinkCause (E.faults err.old) (E.faults err.new) result }
+{
+    err.put(name)?;
+    err.put(end)
+}
+
+fn tool_word(tool: Option<Tool>) -> &'static [u8]
+    ensures value { result.now ≡ tool_word tool }
+    ensures room { length result.now ≤ 12 }
+{
+    match tool {
+        None => b"ntfsprogs",
+        Some(tool) => tool_name(tool).as_bytes(),
+    }
+}
+
+/// The name of the host file that a status speaks of.
+fn named_in<'a>(status: &Status, tool: Option<Tool>, words: &'a [String]) -> &'a [u8]
+    ensures { result.now ≡ named_in status.now tool (map string_bytes words.entry.now) }
+{
+    match *status {
+        Status::Absent { file } | Status::Present { file } => name_of(tool, file, words),
+        _ => b"",
+    }
+}
+
+fn name_of<'a>(tool: Option<Tool>, _file: Named, words: &'a [String]) -> &'a [u8]
+    ensures { result.now ≡ name_of tool _file (map string_bytes words.entry.now) }
+{
+    match tool {
+        None => b"",
+        Some(Tool::Info) => word_at(words, 2),
+        Some(Tool::Cat) => word_at(words, 3),
+        Some(Tool::Make) => word_at(words, 1),
+    }
+}
+
+/// The word at a place, or nothing where there is none.
+fn word_at(words: &[String], place: usize) -> &[u8]
+    ensures { result.now ≡ word_at place (map string_bytes words.entry.now) }
+{
+    match words.get(place) {
+        Some(word) => word.as_bytes(),
+        None => b"",
+    }
+}
