@@ -1,5 +1,5 @@
 -- Lemmas on frames and on answers that a definition gives.
-use Rattle.std.proofs.Common.{◌≡◌, ◌≤◌, ℕ, List, [], length, take, refl, sym, ap, subst, ◌∙◌, arith, Result, Ok, Err, Option, Some, None}
+use Rattle.std.proofs.Common.{◌≡◌, ℕ, List, sym, ap, subst, ◌∙◌, arith, Result, Ok, Err, Option, Some, None}
 use Rattle.std.specs.Prelude.{IsTrue}
 use Rattle.std.specs.Option.{option_map, ok_or}
 use Rattle.ntfs_base.specs.Frames.{Origin, IsSettled, Gives, Puts, IfTold, refused_as, without_bytes, bytes_in}

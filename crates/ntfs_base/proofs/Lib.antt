@@ -6,6 +6,7 @@ pub mod GrowthLemmas
 pub mod SinkLemmas
 pub mod MemoryLemmas
 pub mod ShelfLemmas
+pub mod PlanLemmas
 pub mod AttachLemmas
 pub mod WroteLemmas
 pub mod ContentLemmas

@@ -1,6 +1,6 @@
 -- The calls of a device in memory: they are numbered from 1 on, and a list says which of them are to fail. The words
 -- are ours.
-use Rattle.std.specs.Prelude.{◌≡◌, ◌+◌, ◌==◌, ℕ, List, [], ◌∷◌, take, Option, Some, None, Result, is_err, is_some, nat_lt, if◌then◌else◌}
+use Rattle.std.specs.Prelude.{◌≡◌, ◌+◌, ◌==◌, ℕ, List, [], ◌∷◌, ◌++◌, take, Option, Some, None, Result, is_err, is_some, nat_lt, if◌then◌else◌}
 use Rattle.ntfs_base.specs.Causes.{last_count}
 use Rattle.ntfs_base.specs.declared.calls.Calls.{Calls}
 use Rattle.ntfs_base.specs.declared.calls.FailingCall.{FailingCall}
@@ -10,6 +10,10 @@ use Rattle.ntfs_base.specs.declared.calls.Leaves.TheVariants as leaves
 -- one more; a count stops at its last value
 abbrev pub one_more : ℕ → ℕ
 one_more n = if nat_lt n last_count then n + 1 else n
+
+-- the list with a further call that is to fail
+abbrev pub plan_call : ℕ → Leaves → List FailingCall → List FailingCall
+plan_call number leaves calls = calls ++ record { number = number; leaves = leaves } ∷ []
 
 -- what the call of this number leaves, where it is to fail
 abbrev pub failing_at : ℕ → List FailingCall → Option Leaves

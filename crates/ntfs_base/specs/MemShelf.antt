@@ -5,10 +5,11 @@ use Rattle.std.specs.Str.{bytes_eq}
 use Rattle.std.specs.String.{string_bytes}
 use Rattle.std.specs.FinMap as files
 use Rattle.std.specs.declared.alloc.Global.{Global}
-use Rattle.ntfs_base.specs.Calls.{failing_at, one_more}
+use Rattle.ntfs_base.specs.Calls.{failing_at, one_more, plan_call}
 use Rattle.ntfs_base.specs.Shelf.{Files, ShelfState}
 use Rattle.ntfs_base.specs.declared.calls.FailingCall.{FailingCall}
 use Rattle.ntfs_base.specs.declared.calls.Leaves.{Leaves}
+use Rattle.ntfs_base.specs.declared.fault.Faults.{Faults}
 use Rattle.ntfs_base.specs.declared.fault.ShelfFault.{ShelfFault}
 use Rattle.ntfs_base.specs.declared.fault.ShelfFault.TheVariants as fault
 use Rattle.ntfs_base.specs.declared.memory.file.MemFile.{MemFile}
@@ -84,6 +85,22 @@ CreatesAsPlanned old (Err fault.Failed) new =
     (is_some (next_failing_by old) ≡ true) × (made_by new ≡ one_more (made_by old)) × (failing_by new ≡ failing_by old)
 CreatesAsPlanned old (Err fault.NoMemory) new = failing_by new ≡ failing_by old
 
+-- the shelf's faults after an attach: one more read where it failed
+abbrev pub after_attach_fault : {T : Type 0} → Result T ShelfFault → Faults → Faults
+after_attach_fault (Ok file) old = old
+after_attach_fault (Err fault.Absent) old = old
+after_attach_fault (Err fault.Present) old = old
+after_attach_fault (Err fault.Failed) old = record old { reads = one_more old.reads }
+after_attach_fault (Err fault.NoMemory) old = old
+
+-- the shelf's faults after a create: one more write where it failed
+abbrev pub after_create_fault : {T : Type 0} → Result T ShelfFault → Faults → Faults
+after_create_fault (Ok file) old = old
+after_create_fault (Err fault.Absent) old = old
+after_create_fault (Err fault.Present) old = old
+after_create_fault (Err fault.Failed) old = record old { writes = one_more old.writes }
+after_create_fault (Err fault.NoMemory) old = old
+
 -- a file as it is made under a name: empty, and with no fault yet
 pub record IsEmptyFile (name : List ℕ) (file : MemFile) : Type 0 where
   pub bears : string_bytes file.name ≡ name
@@ -129,3 +146,24 @@ pub record CreatesFile {T E : Type 0} (name : List ℕ) (old : List Place) (resu
 pub record KeepsCalls (name : List ℕ) (old new : List Place) : Type 0 where
   pub made : made_by (place_of name new) ≡ made_by (place_of name old)
   pub failing : failing_by (place_of name new) ≡ failing_by (place_of name old)
+
+-- no name has another file, count or list
+pub record KeepsAll (old new : List Place) : Type 0 where
+  pub files : files_of new ≡ files_of old
+  pub made : (name : List ℕ) → made_by (place_of name new) ≡ made_by (place_of name old)
+  pub failing : (name : List ℕ) → failing_by (place_of name new) ≡ failing_by (place_of name old)
+
+-- a file of this name stands on the shelf, with no call under it and none that is to fail; the places of all other names
+-- stay
+pub record AddsFile (name bytes : List ℕ) (old new : List Place) : Type 0 where
+  pub files : files_of new ≡ files.insert (files_of old) name bytes
+  pub made : made_by (place_of name new) ≡ 0
+  pub failing : failing_by (place_of name new) ≡ []
+  pub others : KeepsOthers name old new
+
+-- a further call under this name is to fail, and no file, no count and no place of another name is another
+pub record PlansCall (name : List ℕ) (number : ℕ) (leaves : Leaves) (old new : List Place) : Type 0 where
+  pub files : files_of new ≡ files_of old
+  pub made : made_by (place_of name new) ≡ made_by (place_of name old)
+  pub failing : failing_by (place_of name new) ≡ plan_call number leaves (failing_by (place_of name old))
+  pub others : KeepsOthers name old new

@@ -26,8 +26,8 @@ pub struct Calls {
 }
 
 impl Calls {
-    ghost use Rattle.std.specs.Prelude.{◌≡◌, [], ◌∷◌, ◌++◌, OnOk, OnErr};
-    ghost use Rattle.ntfs_base.specs.Calls.{next_failing, one_more};
+    ghost use Rattle.std.specs.Prelude.{◌≡◌, [], OnOk, OnErr};
+    ghost use Rattle.ntfs_base.specs.Calls.{next_failing, one_more, plan_call};
 
     /// No call yet, and none that is to fail.
     pub fn new(alloc: Global) -> Calls
@@ -40,10 +40,15 @@ impl Calls {
         }
     }
 
-    /// Lets the call of this number fail.
-    pub fn fail(&mut self, number: u64, leaves: Leaves) -> Result<(), AllocError>
+    /// Lets the call of this number fail. Where memory is wanting, all is as before.
+    pub fn fail(
+        &mut self,
+        _alloc: Global,
+        number: u64,
+        leaves: Leaves,
+    ) -> Result<(), AllocError>
         ensures made { self.new.made ≡ self.old.made }
-        ensures added { OnOk result (self.new.failing.items ≡ self.old.failing.items ++ record { number = number; leaves = leaves } ∷ []) }
+        ensures added { OnOk result (self.new.failing.items ≡ plan_call number leaves self.old.failing.items) }
         ensures same { OnErr result (self.new.failing.items ≡ self.old.failing.items) }
     {
         self.failing.push(FailingCall { number, leaves })?;

@@ -136,9 +136,9 @@ fn take<S: Source>(source: &mut S, into: &mut [u8]) -> Result<usize, Failed> {
 fn an_image_is_read_and_written(rt: HostRuntime) -> Result<(), Fail> {
     let alloc = rt.alloc();
     let mut image = MemImage::new(alloc, bytes(alloc, b"0123456789")?);
-    image.inside.calls.fail(3, Leaves::Before)?;
-    image.inside.calls.fail(4, Leaves::Asked)?;
-    image.inside.calls.fail(5, Leaves::Before)?;
+    image.inside.calls.fail(alloc, 3, Leaves::Before)?;
+    image.inside.calls.fail(alloc, 4, Leaves::Asked)?;
+    image.inside.calls.fail(alloc, 5, Leaves::Before)?;
     let mut into = [0; 3];
     assert_eq!(rt; image.len(), 10);
     assert_eq!(rt; write(&mut image, 7, b"abc"), Some(Ok(())));
@@ -165,7 +165,7 @@ fn an_image_is_read_and_written(rt: HostRuntime) -> Result<(), Fail> {
 fn a_source_gives_each_byte_once(rt: HostRuntime) -> Result<(), Fail> {
     let alloc = rt.alloc();
     let mut source = MemSource::new(alloc, bytes(alloc, b"abcde")?);
-    source.calls.fail(2, Leaves::Before)?;
+    source.calls.fail(alloc, 2, Leaves::Before)?;
     let mut into = [0; 3];
     assert_eq!(rt; take(&mut source, &mut into), Ok(3));
     assert!(rt; into == *b"abc");
@@ -181,8 +181,8 @@ fn a_source_gives_each_byte_once(rt: HostRuntime) -> Result<(), Fail> {
 fn a_sink_takes_a_front(rt: HostRuntime) -> Result<(), Fail> {
     let alloc = rt.alloc();
     let mut sink = MemSink::new(alloc);
-    sink.calls.fail(2, Leaves::Front { bytes: 2 })?;
-    sink.calls.fail(3, Leaves::Before)?;
+    sink.calls.fail(alloc, 2, Leaves::Front { bytes: 2 })?;
+    sink.calls.fail(alloc, 3, Leaves::Before)?;
     assert_eq!(rt; put(&mut sink, b"abc"), Ok(()));
     assert!(rt; !sink.is_flushed);
     assert_eq!(rt; put(&mut sink, b"defg"), Err(PutFault::Failed));
@@ -205,10 +205,10 @@ fn a_sink_takes_a_front(rt: HostRuntime) -> Result<(), Fail> {
 fn a_shelf_numbers_the_calls_of_each_name(rt: HostRuntime) -> Result<(), Fail> {
     let alloc = rt.alloc();
     let mut shelf = MemShelf::new(alloc);
-    shelf.add("a", bytes(alloc, b"one")?)?;
-    shelf.add("b", bytes(alloc, b"two")?)?;
-    shelf.fail("a", 3, Leaves::Before)?;
-    shelf.fail("c", 2, Leaves::Before)?;
+    shelf.add(alloc, "a", bytes(alloc, b"one")?)?;
+    shelf.add(alloc, "b", bytes(alloc, b"two")?)?;
+    shelf.fail(alloc, "a", 3, Leaves::Before)?;
+    shelf.fail(alloc, "c", 2, Leaves::Before)?;
     assert!(rt; shelf.attached.is_empty());
     let written = write_twice(&mut shelf, "a", b"ONE", b"111")
         .ok()
@@ -231,7 +231,7 @@ fn a_shelf_numbers_the_calls_of_each_name(rt: HostRuntime) -> Result<(), Fail> {
 fn a_shelf_refuses_what_it_has_not(rt: HostRuntime) -> Result<(), Fail> {
     let alloc = rt.alloc();
     let mut shelf = MemShelf::new(alloc);
-    shelf.fail("c", 2, Leaves::Before)?;
+    shelf.fail(alloc, "c", 2, Leaves::Before)?;
     for want in [ShelfFault::Absent, ShelfFault::Failed, ShelfFault::Absent] {
         assert!(rt; shelf.attached.is_empty());
         assert!(rt; write_twice(&mut shelf, "c", b"", b"") == Err(want));
@@ -245,9 +245,9 @@ fn a_shelf_refuses_what_it_has_not(rt: HostRuntime) -> Result<(), Fail> {
 fn a_file_is_cut_and_extended(rt: HostRuntime) -> Result<(), Fail> {
     let alloc = rt.alloc();
     let mut made = file(alloc, b"0123")?;
-    made.inside.calls.fail(3, Leaves::Before)?;
-    made.inside.calls.fail(4, Leaves::Asked)?;
-    made.inside.calls.fail(5, Leaves::Front { bytes: 1 })?;
+    made.inside.calls.fail(alloc, 3, Leaves::Before)?;
+    made.inside.calls.fail(alloc, 4, Leaves::Asked)?;
+    made.inside.calls.fail(alloc, 5, Leaves::Front { bytes: 1 })?;
     let cases = [
         (3, Ok(()), b"012".as_slice()),
         (5, Ok(()), b"012\0\0"),
@@ -270,9 +270,9 @@ fn a_file_is_cut_and_extended(rt: HostRuntime) -> Result<(), Fail> {
 fn a_file_grows_by_a_front(rt: HostRuntime) -> Result<(), Fail> {
     let alloc = rt.alloc();
     let mut made = file(alloc, b"01")?;
-    made.inside.calls.fail(2, Leaves::Front { bytes: 2 })?;
-    made.inside.calls.fail(3, Leaves::Before)?;
-    made.inside.calls.fail(4, Leaves::Asked)?;
+    made.inside.calls.fail(alloc, 2, Leaves::Front { bytes: 2 })?;
+    made.inside.calls.fail(alloc, 3, Leaves::Before)?;
+    made.inside.calls.fail(alloc, 4, Leaves::Asked)?;
     let cases = [
         (b"ab".as_slice(), Ok(()), b"01ab".as_slice()),
         (b"cde", Err(PutFault::Failed), b"01abcd"),
@@ -293,9 +293,9 @@ fn a_file_grows_by_a_front(rt: HostRuntime) -> Result<(), Fail> {
 fn a_shelf_makes_files(rt: HostRuntime) -> Result<(), Fail> {
     let alloc = rt.alloc();
     let mut shelf = MemShelf::new(alloc);
-    shelf.add("a", bytes(alloc, b"one")?)?;
-    shelf.fail("b", 1, Leaves::Asked)?;
-    shelf.fail("b", 4, Leaves::Front { bytes: 1 })?;
+    shelf.add(alloc, "a", bytes(alloc, b"one")?)?;
+    shelf.fail(alloc, "b", 1, Leaves::Asked)?;
+    shelf.fail(alloc, "b", 4, Leaves::Front { bytes: 1 })?;
     let cases = [
         ("a", true, Err(ShelfFault::Present), Some(b"one".as_slice())),
         ("a", false, Ok(Ok(())), Some(b"xy".as_slice())),
@@ -326,7 +326,7 @@ fn a_shelf_makes_files(rt: HostRuntime) -> Result<(), Fail> {
 fn a_file_is_read_from_its_start(rt: HostRuntime) -> Result<(), Fail> {
     let alloc = rt.alloc();
     let mut inside = file(alloc, b"abcde")?;
-    inside.inside.calls.fail(2, Leaves::Before)?;
+    inside.inside.calls.fail(alloc, 2, Leaves::Before)?;
     let mut source = FileSource::new(inside);
     let mut into = [0; 3];
     assert_eq!(rt; take(&mut source, &mut into), Ok(3));
@@ -346,8 +346,8 @@ fn a_file_is_read_from_its_start(rt: HostRuntime) -> Result<(), Fail> {
 fn a_file_takes_what_is_put(rt: HostRuntime) -> Result<(), Fail> {
     let alloc = rt.alloc();
     let mut inside = file(alloc, b"a")?;
-    inside.inside.calls.fail(2, Leaves::Front { bytes: 1 })?;
-    inside.inside.calls.fail(3, Leaves::Before)?;
+    inside.inside.calls.fail(alloc, 2, Leaves::Front { bytes: 1 })?;
+    inside.inside.calls.fail(alloc, 3, Leaves::Before)?;
     let mut sink = FileSink::new(inside);
     assert!(rt; sink.is_flushed);
     assert_eq!(rt; put(&mut sink, b"bc"), Ok(()));
@@ -394,7 +394,7 @@ fn growth_is_whole(rt: &impl Abort, host: &HostRuntime) -> Result<bool, Fail> {
     let Ok(text) = bytes(alloc, b"one") else {
         return Ok(false);
     };
-    if shelf.add("a", text).is_err() {
+    if shelf.add(alloc, "a", text).is_err() {
         assert_eq!(rt; shelf.content("a"), None);
         return Ok(false);
     }

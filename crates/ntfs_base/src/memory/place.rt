@@ -13,10 +13,11 @@ pub struct Place {
     pub calls: Calls,
 }
 
-ghost use Rattle.std.specs.Prelude.{◌≡◌, ◌++◌, [], ◌∷◌, Some, None, is_some, true, string_bytes, IfOk, IsSome, IsSomeAnd, IsTrue, OnOk, OnErr, IsErrOf};
+ghost use Rattle.std.specs.Prelude.{◌≡◌, [], Some, None, is_some, true, string_bytes, IfOk, IsSome, IsSomeAnd, IsTrue, OnOk, OnErr, IsErrOf};
 ghost use Rattle.std.specs.FinMap.{insert};
 ghost use Rattle.std.specs.Option.{option_map};
-ghost use Rattle.ntfs_base.specs.MemShelf.{index_of, place_of, place_bytes, files_of, failing_by, made_by, IsFresh, IsEmptyFile, KeepsFiles, KeepsCalls, CreatesFile, AttachesAsPlanned, CreatesAsPlanned, KeepsOthers, KeepsPlaces};
+ghost use Rattle.ntfs_base.specs.Calls.{plan_call};
+ghost use Rattle.ntfs_base.specs.MemShelf.{index_of, place_of, place_bytes, files_of, made_by, IsFresh, IsEmptyFile, KeepsFiles, KeepsCalls, CreatesFile, AttachesAsPlanned, CreatesAsPlanned, KeepsOthers, KeepsPlaces, PlansCall};
 ghost use Rattle.ntfs_base.specs.Shelf.{file_of};
 
 /// Where the first place of a name stands.
@@ -227,6 +228,7 @@ pub(crate) fn put_back(places: &mut Vec<Place>, name: &str, bytes: Vec<u8>, call
 
 /// Lets a call under a name fail, whose place stands at this index.
 pub(crate) fn fail_at(
+    alloc: Global,
     places: &mut Vec<Place>,
     name: &str,
     index: usize,
@@ -235,17 +237,25 @@ pub(crate) fn fail_at(
 ) -> Result<(), AllocError>
     requires { index_of name.now places.old.items ≡ Some index }
     ensures files { KeepsFiles name.now places.old.items places.new.items }
-    ensures ok { OnOk result (failing_by (place_of name.now places.new.items) ≡ failing_by (place_of name.now places.old.items) ++ record { number = number; leaves = leaves } ∷ []) }
+    ensures added { OnOk result (PlansCall name.now number leaves places.old.items places.new.items) }
+    ensures refused { OnErr result (KeepsCalls name.now places.old.items places.new.items) }
 {
-    fail_here(&mut places[index], number, leaves)
+    fail_here(alloc, &mut places[index], number, leaves)
 }
 
-fn fail_here(place: &mut Place, number: u64, leaves: Leaves) -> Result<(), AllocError>
+fn fail_here(
+    alloc: Global,
+    place: &mut Place,
+    number: u64,
+    leaves: Leaves,
+) -> Result<(), AllocError>
     ensures name { place.new.name ≡ place.old.name }
     ensures content { place.new.content ≡ place.old.content }
-    ensures ok { OnOk result (place.new.calls.failing.items ≡ place.old.calls.failing.items ++ record { number = number; leaves = leaves } ∷ []) }
+    ensures made { place.new.calls.made ≡ place.old.calls.made }
+    ensures added { OnOk result (place.new.calls.failing.items ≡ plan_call number leaves place.old.calls.failing.items) }
+    ensures refused { OnErr result (place.new.calls.failing.items ≡ place.old.calls.failing.items) }
 {
-    place.calls.fail(number, leaves)
+    place.calls.fail(alloc, number, leaves)
 }
 
 /// The bytes under a name, whose place stands at this index.

@@ -23,10 +23,10 @@ pub struct MemShelf {
 }
 
 impl MemShelf {
-    ghost use Rattle.std.specs.Prelude.{◌≡◌, ◌++◌, [], ◌∷◌, OnOk, OnErr};
+    ghost use Rattle.std.specs.Prelude.{◌≡◌, [], OnOk, OnErr};
     ghost use Rattle.std.specs.Option.{option_map};
-    ghost use Rattle.std.specs.FinMap.{empty, insert};
-    ghost use Rattle.ntfs_base.specs.MemShelf.{files_of, place_of, made_by, failing_by, KeepsFiles};
+    ghost use Rattle.std.specs.FinMap.{empty};
+    ghost use Rattle.ntfs_base.specs.MemShelf.{files_of, place_of, made_by, AddsFile, KeepsAll, PlansCall};
     ghost use Rattle.ntfs_base.specs.Shelf.{file_of};
 
     /// A shelf without files.
@@ -46,29 +46,34 @@ impl MemShelf {
         }
     }
 
-    /// Puts a file on the shelf, in place of one of that name, with no call under it yet and none that is to fail.
-    pub fn add(&mut self, name: &str, bytes: Vec<u8>) -> Result<(), AllocError>
-        ensures ok { OnOk result (files_of self.new.places.items ≡ insert (files_of self.old.places.items) name.now bytes.items) }
-        ensures err { OnErr result (files_of self.new.places.items ≡ files_of self.old.places.items) }
+    /// Puts a file on the shelf, in place of one of that name, with no call under it yet and none that is to fail. Where
+    /// memory is wanting, all is as before.
+    pub fn add(&mut self, alloc: Global, name: &str, bytes: Vec<u8>) -> Result<(), AllocError>
+        ensures added { OnOk result (AddsFile name.now bytes.items self.old.places.items self.new.places.items) }
+        ensures refused { OnErr result (KeepsAll self.old.places.items self.new.places.items) }
         ensures attached { self.new.attached ≡ self.old.attached }
         ensures faults { self.new.faults ≡ self.old.faults }
     {
-        let alloc = *self.places.allocator();
         index_for(alloc, &mut self.places, name)?;
         put_back(&mut self.places, name, bytes, Calls::new(alloc));
         Ok(())
     }
 
-    /// Lets the call of this number under a name fail.
-    pub fn fail(&mut self, name: &str, number: u64, leaves: Leaves) -> Result<(), AllocError>
-        ensures ok { OnOk result (failing_by (place_of name.now self.new.places.items) ≡ failing_by (place_of name.now self.old.places.items) ++ record { number = number; leaves = leaves } ∷ []) }
-        ensures files { KeepsFiles name.now self.old.places.items self.new.places.items }
+    /// Lets the call of this number under a name fail. Where memory is wanting, all is as before.
+    pub fn fail(
+        &mut self,
+        alloc: Global,
+        name: &str,
+        number: u64,
+        leaves: Leaves,
+    ) -> Result<(), AllocError>
+        ensures added { OnOk result (PlansCall name.now number leaves self.old.places.items self.new.places.items) }
+        ensures refused { OnErr result (KeepsAll self.old.places.items self.new.places.items) }
         ensures attached { self.new.attached ≡ self.old.attached }
         ensures faults { self.new.faults ≡ self.old.faults }
     {
-        let alloc = *self.places.allocator();
         let index = index_for(alloc, &mut self.places, name)?;
-        fail_at(&mut self.places, name, index, number, leaves)
+        fail_at(alloc, &mut self.places, name, index, number, leaves)
     }
 
     /// The bytes of the file of a name.
@@ -98,7 +103,7 @@ impl Shelf for MemShelf {
     ghost use Rattle.std.specs.Prelude.{◌≡◌, false, true, string_bytes, IsSomeAnd, IfOk, IfErr, OnOk, OnErr};
     ghost use Rattle.ntfs_base.specs.Causes.{HaveNotFallen};
     ghost use Rattle.ntfs_base.specs.Memory.{seen_of};
-    ghost use Rattle.ntfs_base.specs.MemShelf.{seen_mem_shelf, place_of, AttachesAsPlanned, CreatesAsPlanned, KeepsOthers};
+    ghost use Rattle.ntfs_base.specs.MemShelf.{seen_mem_shelf, place_of, after_attach_fault, after_create_fault, AttachesAsPlanned, CreatesAsPlanned, KeepsOthers};
     ghost use Rattle.ntfs_base.specs.Shelf.{IsHandedOut, IsCreated, AttachCause, CreateCause, after_attach, after_create, after_release, has_name, added_count};
 
     ghost seen = { λ shelf. seen_mem_shelf shelf.places.items shelf.attached.items };
@@ -112,6 +117,7 @@ impl Shelf for MemShelf {
         ensures refused { OnErr result (seen_mem_shelf self.new.places.items self.new.attached.items ≡ seen_mem_shelf self.old.places.items self.old.attached.items) }
         ensures refusal { IfErr result (λ fault. AttachCause fault (seen_mem_shelf self.old.places.items self.old.attached.items) name.now self.old.faults self.new.faults) }
         ensures counts { HaveNotFallen self.old.faults self.new.faults }
+        ensures faults { self.new.faults ≡ after_attach_fault result self.old.faults }
         ensures planned { AttachesAsPlanned (place_of name.now self.old.places.items) result (place_of name.now self.new.places.items) }
         ensures others { KeepsOthers name.now self.old.places.items self.new.places.items }
     {
@@ -138,6 +144,7 @@ impl Shelf for MemShelf {
         ensures refused { OnErr result (seen_mem_shelf self.new.places.items self.new.attached.items ≡ seen_mem_shelf self.old.places.items self.old.attached.items) }
         ensures refusal { IfErr result (λ fault. CreateCause fault (seen_mem_shelf self.old.places.items self.old.attached.items) name.now must_be_new self.old.faults self.new.faults) }
         ensures counts { HaveNotFallen self.old.faults self.new.faults }
+        ensures faults { self.new.faults ≡ after_create_fault result self.old.faults }
         ensures planned { CreatesAsPlanned (place_of name.now self.old.places.items) result (place_of name.now self.new.places.items) }
         ensures others { KeepsOthers name.now self.old.places.items self.new.places.items }
     {

@@ -14,7 +14,7 @@ pub struct MemSink {
 }
 
 impl MemSink {
-    ghost use Rattle.std.specs.Prelude.{◌≡◌, []};
+    ghost use Rattle.std.specs.Prelude.{◌≡◌, [], true};
 
     /// An empty sink, without a name, of which no call fails.
     pub fn new(alloc: Global) -> MemSink
@@ -22,6 +22,7 @@ impl MemSink {
         ensures name { result.name.items ≡ [] }
         ensures made { result.calls.made ≡ 0 }
         ensures failing { result.calls.failing.items ≡ [] }
+        ensures flushed { result.is_flushed ≡ true }
         ensures failures { result.faults.failures ≡ 0 }
         ensures wants { result.faults.wants ≡ 0 }
     {
