@@ -2,7 +2,7 @@ ghost use Rattle.std.specs.Prelude.{◌≡◌, [], ◌∷◌, length, MatchOptio
 ghost use Rattle.ntfs_attrlist.specs.Reading as reading;
 ghost use Rattle.ntfs_attrlist.specs.Views.{shown_item};
 
-use crate::entry::{ListEntry, entry_in};
+use crate::entry::{ListEntry, entry_from};
 use crate::fault::BadEntry;
 use crate::layout::{entry_length, entry_name_offset, entry_name_units};
 use std::marker::Model;
@@ -70,7 +70,7 @@ impl<'a> Entries<'a> {
         let (raw, rest) = self.rest.split_at(usize::from(entry_length(self.rest)));
         self.rest = rest;
         self.place += raw.len();
-        Some(Ok(entry_in(raw)))
+        Some(Ok(entry_from(raw)))
     }
 }
 

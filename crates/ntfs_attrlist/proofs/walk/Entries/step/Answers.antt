@@ -22,8 +22,8 @@ split_at-requires c =
     let h = has_first c.self.inside.rest.now (sym c.has_entry.ensures ∙ c.if-not-has_entry.false) in
     omega (arith, h.within, c.from.ensures, c.entry_length.ensures)
 
-pub entry_in-requires : goal.entry_in-requires
-entry_in-requires c =
+pub entry_from-requires : goal.entry_from-requires
+entry_from-requires c =
     split-raw c.self.inside.rest.now c.split_at.result.0.now c.from.result (sym c.has_entry.ensures ∙ c.if-not-has_entry.false)
     (c.from.ensures ∙ c.entry_length.ensures) c.split_at.ensures.front
 
@@ -32,4 +32,4 @@ returns c =
     let s = c.self.inside in
     sym c.self.view_is
     ∙ step-entry s.place s.rest.now c.split_at.result.0.now c.split_at.result.1.now _ c.from.result (sym c.has_entry.ensures ∙ c.if-not-has_entry.false)
-    (c.from.ensures ∙ c.entry_length.ensures) c.split_at.ensures.front c.split_at.ensures.back c.entry_in.ensures
+    (c.from.ensures ∙ c.entry_length.ensures) c.split_at.ensures.front c.split_at.ensures.back c.entry_from.ensures
