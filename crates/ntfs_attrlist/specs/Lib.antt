@@ -1,0 +1,5 @@
+pub mod Layout
+pub mod Entry
+pub mod AttributeList
+pub mod Reading
+pub mod Views
