@@ -1,0 +1,4 @@
+pub mod MetLemmas
+pub mod WalkLemmas
+pub mod LawLemmas
+pub mod TreeLemmas

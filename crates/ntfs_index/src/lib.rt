@@ -1,0 +1,7 @@
+//! The walk of a directory's index: the entries of its tree of nodes, in order, over blocks that are fetched one by one.
+#![tactic(auto)]
+
+mod fault;
+pub mod laws;
+
+pub use fault::{BlockFault, IndexFault};
