@@ -1,3 +1,4 @@
+pub mod NodeLemmas
 pub mod MetLemmas
 pub mod WalkLemmas
 pub mod LawLemmas

@@ -4,4 +4,6 @@ pub mod Node
 pub mod Blocks
 pub mod Walk
 pub mod Tree
+pub mod Entry
+pub mod Path
 pub mod Laws
