@@ -3,3 +3,5 @@ pub mod MetLemmas
 pub mod WalkLemmas
 pub mod LawLemmas
 pub mod TreeLemmas
+pub mod AlikeLemmas
+pub mod PathLemmas

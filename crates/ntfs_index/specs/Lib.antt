@@ -5,5 +5,6 @@ pub mod Blocks
 pub mod Walk
 pub mod Tree
 pub mod Entry
+pub mod Fetches
 pub mod Path
 pub mod Laws

@@ -1,10 +1,13 @@
 //! The walk of a directory's index: the entries of its tree of nodes, in order, over blocks that are fetched one by one.
 #![tactic(auto)]
 
+mod blocks;
 mod entry;
 mod fault;
 mod layout;
 mod node;
+mod path;
 pub mod laws;
 
+pub use blocks::Blocks;
 pub use fault::{BlockFault, IndexFault};

@@ -1,11 +1,11 @@
 //! Open nodes: the root and the blocks that a walk is in, each with the bytes of its entries and how far the walk has come.
 
-ghost use Rattle.std.specs.Prelude.{◌≡◌, ◌+◌, ◌≤◌, ◌⊎◌, ℕ, true, Some, Ok, Err, drop, length, vec_len, IfOk, MatchResult};
+ghost use Rattle.std.specs.Prelude.{◌≡◌, ◌+◌, ◌≤◌, true, length, vec_len, IfOk, MatchResult};
+ghost use Rattle.ntfs_base.specs.Frames.{Gives, IsJudged};
 ghost use Rattle.ntfs_fixup.specs.Fixups.{HasWholeStrides};
-ghost use Rattle.ntfs_index.specs.Blocks.{IsBlockSize};
+ghost use Rattle.ntfs_index.specs.Fetches.{index_origin};
 ghost use Rattle.ntfs_index.specs.Node as spec;
-ghost use Rattle.ntfs_index.specs.Path.{IsOpened, IsPassed, entry_at};
-ghost use Rattle.ntfs_index.specs.declared.fault.IndexFault.{IndexFault};
+ghost use Rattle.ntfs_index.specs.Path.{IsFirst, IsPassed, entry_at};
 
 use crate::fault::IndexFault;
 use crate::layout::{
@@ -13,7 +13,7 @@ use crate::layout::{
     index_length, root_type,
 };
 use ntfs_fixup::{Magic, unfix};
-use std::alloc::{AllocError, Global};
+use std::alloc::Global;
 
 /// The VCN of a root in a fault.
 const ROOT_VCN: u64 = u64::MAX;
@@ -65,8 +65,9 @@ fn has_right_header(header: usize, bytes: &[u8]) -> bool
 fn open_at(vcn: u64, mut bytes: Vec<u8>, header: usize) -> Result<OpenNode, IndexFault>
     requires header { header ≤ 0x18 }
     requires fields { header + 16 ≤ vec_len bytes }
-    ensures { MatchResult result (λ node. IsOpened vcn (spec.entries_at vcn header bytes.items) node)
+    ensures exact { MatchResult result (λ node. spec.entries_at vcn header bytes.items ≡ Ok (entry_at node))
         (λ fault. spec.entries_at vcn header bytes.items ≡ Err fault) }
+    ensures first { IfOk result (IsFirst vcn) }
 {
     if !has_right_header(header, &bytes) {
         return Err(IndexFault::BadNode { vcn, rule: 3 });
@@ -93,8 +94,9 @@ fn is_root(size: u32, root: &[u8]) -> bool
 /// The root of an index, at its first entry, on a volume whose blocks have this size.
 #[tactic(auto, unfolding(crate::specs::Node::root_node))]
 pub(crate) fn open_root(alloc: Global, size: u32, root: &[u8]) -> Result<OpenNode, IndexFault>
-    ensures { MatchResult result (λ node. IsOpened spec.root_vcn (spec.root_node size root.now) node)
-        (λ fault. (fault ≡ IndexFault.NoMemory) ⊎ (spec.root_node size root.now ≡ Err fault)) }
+    ensures gives { Gives index_origin entry_at (spec.root_node size root.now) result }
+    ensures first { IfOk result (IsFirst spec.root_vcn) }
+    ensures judged { IsJudged index_origin result }
 {
     if !is_root(size, root) {
         return Err(IndexFault::BadNode {
@@ -108,8 +110,9 @@ pub(crate) fn open_root(alloc: Global, size: u32, root: &[u8]) -> Result<OpenNod
 /// The block of a VCN, at its first entry, by its bytes with fixups.
 pub(crate) fn open_block(vcn: u64, mut raw: Vec<u8>) -> Result<OpenNode, IndexFault>
     requires { HasWholeStrides raw.items }
-    ensures { MatchResult result (λ node. IsOpened vcn (spec.raw_node vcn (Some raw.items)) node)
+    ensures exact { MatchResult result (λ node. spec.raw_node vcn (Some raw.items) ≡ Ok (entry_at node))
         (λ fault. spec.raw_node vcn (Some raw.items) ≡ Err fault) }
+    ensures first { IfOk result (IsFirst vcn) }
 {
     if unfix(&mut raw, Magic::Indx).is_err() {
         return Err(IndexFault::BadNode { vcn, rule: 1 });
