@@ -5,3 +5,4 @@ pub mod LawLemmas
 pub mod TreeLemmas
 pub mod AlikeLemmas
 pub mod PathLemmas
+pub mod WalkStateLemmas

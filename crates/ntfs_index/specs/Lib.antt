@@ -7,4 +7,5 @@ pub mod Tree
 pub mod Entry
 pub mod Fetches
 pub mod Path
+pub mod State
 pub mod Laws

@@ -7,6 +7,13 @@ ghost use Rattle.ntfs_index.specs.Node as node;
 
 use crate::layout::{child_vcn, entry_flags, entry_length, file_name_length, indexed_file, key_length};
 
+/// An entry that a walk gave; its key is the walk's.
+#[derive(Clone, Copy, Debug, PartialEq, Eq)]
+pub struct Entry {
+    /// The reference of the file that the key names.
+    pub reference: u64,
+}
+
 /// The entry has a child.
 #[tactic(auto, unfolding(crate::specs::Node::has_child))]
 fn has_child(entry: &[u8]) -> bool

@@ -7,7 +7,10 @@ mod fault;
 mod layout;
 mod node;
 mod path;
+mod walk;
 pub mod laws;
 
 pub use blocks::Blocks;
+pub use entry::Entry;
 pub use fault::{BlockFault, IndexFault};
+pub use walk::{Walk, start};

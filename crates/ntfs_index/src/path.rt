@@ -118,7 +118,7 @@ impl Path {
     }
 
     /// One turn: gives the next entry and shows its key, goes down or up, or comes to the end.
-    fn take_turn<B: Blocks>(
+    pub fn take_turn<B: Blocks>(
         &mut self,
         key: &mut Vec<u8>,
         alloc: Global,
