@@ -8,4 +8,6 @@ pub mod Entry
 pub mod Fetches
 pub mod Path
 pub mod State
+pub mod Sized
+pub mod MemBlocks
 pub mod Laws
