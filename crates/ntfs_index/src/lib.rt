@@ -9,6 +9,8 @@ mod layout;
 mod memory;
 mod node;
 mod path;
+#[cfg(test)]
+mod tests;
 mod walk;
 pub mod laws;
 

@@ -1,0 +1,4 @@
+//! Walks of small trees. What each must give was written down by hand, from the tree.
+mod build;
+mod rules;
+mod trees;
