@@ -116,7 +116,7 @@ fn fill(entry: &mut [u8], key: usize, byte: u8) {
 }
 
 /// The entries of a node among the rows, each with the least key, 66 bytes.
-fn entries(alloc: Global, rows: &[Row], node: u64) -> Result<Vec<u8>, AllocError> {
+pub fn entries(alloc: Global, rows: &[Row], node: u64) -> Result<Vec<u8>, AllocError> {
     let mut bytes = Vec::new(alloc);
     for row in rows {
         if row.node == node {
