@@ -35,9 +35,9 @@ insert-twice vcn keys added is twice = sym (contains-is_met vcn keys) ∙ not-fa
 
 eqb-sym : (x y : ℕ) → (x == y) ≡ (y == x)
 eqb-sym x y = elim (cases_Bool (x == y)) [
-  inl same ↦ same ∙ sym (eq-eqb y x (sym (eqb-true x y same)))
+  | inl same ↦ same ∙ sym (eq-eqb y x (sym (eqb-true x y same)))
   | inr apart ↦ apart ∙ sym (ne_eqb y x (λ same. eqb-false x y apart (sym same)))
-  ]
+]
 
 or-cond : (met last : Bool) → (met || (last || false)) ≡ cond last true met
 or-cond true true = refl

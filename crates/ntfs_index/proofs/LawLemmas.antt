@@ -1,9 +1,9 @@
 -- What a walk met: it only grows, has none twice, and is all that the walk depends on.
 use Rattle.std.proofs.Common.{◌≡◌, ℕ, zero, suc, Bool, true, false, List, [], ◌∷◌, ◌++◌, Ok, Err, Result, if◌then◌else◌, refl, sym, ap, ◌∙◌}
 use Rattle.std.proofs.lemmas.Bool.{cond_both}
-use Rattle.ntfs_index.specs.Blocks.{BlockMap}
+use Rattle.ntfs_index.specs.Blocks.{BlockMap, allocation_blocks}
 use Rattle.ntfs_index.specs.Node.{Visit, Child, Own, Damage, visits, root_node, root_vcn, block_node, raw_node}
-use Rattle.ntfs_index.specs.Walk.{Walked, Gave, Whole, Broke, Listing, before, listing, blocks_met, and_then, is_met, walk_visits, walk_node, walk_child, walk}
+use Rattle.ntfs_index.specs.Walk.{Walked, Gave, Whole, Broke, Listing, before, listing, blocks_met, and_then, is_met, walk_visits, walk_node, walk_child, walk, walk_allocation}
 use Rattle.ntfs_index.specs.Tree.{AreDistinct}
 use Rattle.ntfs_index.specs.Laws.{AgreeOnMet, HasNoChild, own_entries}
 use Rattle.ntfs_index.specs.declared.fault.IndexFault.{IndexFault}
@@ -86,6 +86,12 @@ pub walk-agrees : (size : ℕ) (root : List ℕ) (a b : BlockMap) → AgreeOnMet
 unfolding walk
 walk-agrees size root a b agree =
     node-agrees a b (walk_child a 15) (walk_child b 15) (child-grows a 15) (child-agrees a b 15) root_vcn (root_node size root) [] agree
+
+pub walk_allocation-agrees : (cluster size : ℕ) (root a b : List ℕ)
+    → AgreeOnMet (allocation_blocks cluster size a) (allocation_blocks cluster size b) (blocks_met (walk_allocation cluster size root a))
+    → walk_allocation cluster size root b ≡ walk_allocation cluster size root a
+unfolding walk_allocation
+walk_allocation-agrees cluster size root a b agree = walk-agrees size root (allocation_blocks cluster size a) (allocation_blocks cluster size b) agree
 
 -- ---- none is met twice
 

@@ -26,16 +26,18 @@ is_met-apart v vcn rest not =
 -- none stands twice where a new one is added
 pub AreDistinct-more : (vcn : ℕ) (met : List ℕ) → AreDistinct met → is_met vcn met ≡ false → AreDistinct (met ++ vcn ∷ [])
 AreDistinct-more vcn [] distinct not = (refl, tt)
-AreDistinct-more vcn (m ∷ met) distinct not =
-    (is_met-append m met (vcn ∷ []) ∙ or_from (is_met m met) (is_met m (vcn ∷ [])) distinct.0 (is_met-apart vcn m met not),
-    AreDistinct-more vcn met distinct.1 (or_parts (vcn == m) (is_met vcn met) not).1)
+AreDistinct-more vcn (m ∷ met) distinct not = (
+  is_met-append m met (vcn ∷ []) ∙ or_from (is_met m met) (is_met m (vcn ∷ [])) distinct.0 (is_met-apart vcn m met not),
+  AreDistinct-more vcn met distinct.1 (or_parts (vcn == m) (is_met vcn met) not).1,
+)
 
 -- nor in a front
 pub AreDistinct-front : (front rest : List ℕ) → AreDistinct (front ++ rest) → AreDistinct front
 AreDistinct-front [] rest distinct = tt
-AreDistinct-front (m ∷ front) rest distinct =
-    ((or_parts (is_met m front) (is_met m rest) (sym (is_met-append m front rest) ∙ distinct.0)).0,
-    AreDistinct-front front rest distinct.1)
+AreDistinct-front (m ∷ front) rest distinct = (
+  (or_parts (is_met m front) (is_met m rest) (sym (is_met-append m front rest) ∙ distinct.0)).0,
+  AreDistinct-front front rest distinct.1,
+)
 
 -- one in the middle doesn't stand before
 pub AreDistinct-middle : (vcn : ℕ) (front rest : List ℕ) → AreDistinct (front ++ vcn ∷ rest) → is_met vcn front ≡ false

@@ -1,6 +1,7 @@
 -- The blocks of an index as contracts see them: a finite map from VCNs to blocks, all of one size, and how the bytes of an
 -- allocation give such a map (the Linux-NTFS documentation, "$INDEX_ALLOCATION" and "Index Record"; the words are ours).
 use Rattle.std.specs.Prelude.{◌≡◌, ◌+◌, ◌*◌, ◌%◌, ◌≤◌, ℕ, Bool, List, length, take, drop, Option, Some, None, IsTrue, nat_le, if◌then◌else◌}
+use Rattle.ntfs_base.specs.Bytes.{piece_at}
 use Rattle.ntfs_base.specs.Image.{ImageState}
 
 -- the block of each VCN, as it stands in the allocation: with its fixups
@@ -35,4 +36,8 @@ vcn_unit cluster size = if nat_le cluster size then cluster else 512
 -- the block of a VCN in the bytes of an allocation, where it lies wholly in them
 unfoldable pub blocks_of : ℕ → ℕ → List ℕ → BlockMap
 blocks_of unit size bytes vcn =
-    if nat_le (vcn * unit + size) (length bytes) then Some (take size (drop (vcn * unit) bytes)) else None
+    if nat_le (vcn * unit + size) (length bytes) then Some (piece_at (vcn * unit) size bytes) else None
+
+-- the blocks of an allocation on a volume of this cluster and block size
+abbrev pub allocation_blocks : ℕ → ℕ → List ℕ → BlockMap
+allocation_blocks cluster size bytes = blocks_of (vcn_unit cluster size) size bytes

@@ -1,6 +1,7 @@
 -- What is met in the bytes of one node of an index: the first of the two steps of a walk. The rules of entries, 4 and 5, are settled
 -- here (the Linux-NTFS documentation, "Index Record" and "Directory"; the numbers of the rules and the words are ours).
 use Rattle.std.specs.Prelude.{◌+◌, ◌-◌, ◌*◌, ◌%◌, ◌==◌, ◌&&◌, ℕ, zero, suc, Bool, true, false, not, List, [], ◌∷◌, ◌++◌, length, take, drop, Option, Some, None, Result, Ok, Err, nat_le, if◌then◌else◌, bit_and}
+use Rattle.ntfs_base.specs.Bytes.{piece_at}
 use Rattle.ntfs_fixup.specs.Fixups.{unfixed}
 use Rattle.ntfs_fixup.specs.declared.header.Magic.TheVariants.{Indx}
 use Rattle.ntfs_fixup.specs.declared.unfixing.FixFault.{FixFault}
@@ -39,7 +40,7 @@ child_of entry = if has_child entry then Some (child_vcn entry) else None
 
 -- the key, behind the 16 bytes of the fields
 unfoldable pub key_of : List ℕ → List ℕ
-key_of entry = take (key_length entry) (drop 0x10 entry)
+key_of entry = piece_at 0x10 (key_length entry) entry
 
 -- rule 4: the length is at least 16, a multiple of 8, and within the bytes in use
 unfoldable pub has_right_length : List ℕ → Bool

@@ -5,7 +5,7 @@
 -- nothing else.
 use Rattle.std.specs.Prelude.{◌==◌, ◌++◌, ℕ, zero, suc, Bool, List, [], ◌∷◌, Option, Some, None, Result, Ok, Err, if◌then◌else◌}
 use Rattle.std.specs.List.{list_any}
-use Rattle.ntfs_index.specs.Blocks.{BlockMap, blocks_of, vcn_unit}
+use Rattle.ntfs_index.specs.Blocks.{BlockMap, allocation_blocks}
 use Rattle.ntfs_index.specs.Node.{IndexEntry, Visit, Child, Own, Damage, visits, root_node, root_vcn, block_node}
 use Rattle.ntfs_index.specs.declared.fault.IndexFault.{IndexFault}
 use Rattle.ntfs_index.specs.declared.fault.IndexFault.TheVariants.{BadNode, TooDeep}
@@ -69,4 +69,4 @@ walk size root blocks = walk_node (walk_child blocks 15) root_vcn [] (root_node 
 
 -- the index of a root and the bytes of an allocation, on a volume of this cluster and block size
 unfoldable pub walk_allocation : ℕ → ℕ → List ℕ → List ℕ → Walked
-walk_allocation cluster size root bytes = walk size root (blocks_of (vcn_unit cluster size) size bytes)
+walk_allocation cluster size root bytes = walk size root (allocation_blocks cluster size bytes)

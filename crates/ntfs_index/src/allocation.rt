@@ -1,6 +1,7 @@
 //! Where the blocks of an index lie in the bytes of its allocation.
 
-ghost use Rattle.std.specs.Prelude.{◌≡◌, ◌+◌, ◌<◌, ◌≤◌, ℕ, List, length, take, drop, option_map, IfSome};
+ghost use Rattle.std.specs.Prelude.{◌≡◌, ◌+◌, ◌<◌, ◌≤◌, ℕ, List, length, option_map, IfSome};
+ghost use Rattle.ntfs_base.specs.Bytes.{piece_at};
 ghost use Rattle.ntfs_index.specs.Blocks.{blocks_of, vcn_unit as unit_of};
 
 use ntfs_boot::Geometry;
@@ -22,7 +23,7 @@ pub fn vcn_unit(geometry: &Geometry) -> u32
 #[tactic(auto, unfolding(crate::specs::Blocks::blocks_of))]
 pub fn block_place(vcn: u64, unit: u32, size: u32, len: u64) -> Option<u64>
     ensures block { (bytes : List ℕ) → length bytes ≡ len →
-        blocks_of unit size bytes vcn ≡ option_map (λ place. take size (drop place bytes)) result }
+        blocks_of unit size bytes vcn ≡ option_map (λ place. piece_at place size bytes) result }
     ensures within { IfSome result (λ place. place + size ≤ len) }
 {
     let place = vcn.checked_mul(u64::from(unit))?;

@@ -5,7 +5,9 @@ ghost use Rattle.ntfs_index.specs.Entry.{HasSoundLength, IsSoundEntry, IsStep};
 ghost use Rattle.ntfs_index.specs.Layout as layout;
 ghost use Rattle.ntfs_index.specs.Node as node;
 
-use crate::layout::{child_vcn, entry_flags, entry_length, file_name_length, indexed_file, key_length};
+use crate::layout::{
+    child_vcn, entry_flags, entry_length, file_name_length, indexed_file, key_length,
+};
 
 /// An entry that a walk gave; its key is the walk's.
 #[derive(Clone, Copy, Debug, PartialEq, Eq)]
@@ -144,7 +146,7 @@ pub(crate) fn step_of(entry: &[u8], entered: bool) -> Step
 }
 
 /// The key of an entry.
-#[tactic(auto, unfolding(crate::specs::Node::key_of))]
+#[tactic(auto, unfolding(crate::specs::Node::key_of, ntfs_base::specs::Bytes::piece_at))]
 pub(crate) fn key_of(entry: &[u8]) -> &[u8]
     requires fields { 0x10 ≤ length entry.now }
     requires within { 0x10 + layout.key_length entry.now ≤ length entry.now }

@@ -1,9 +1,9 @@
 //! Laws of walks: each function does nothing, and its contract holds of every root and all blocks.
 
 ghost use Rattle.std.specs.Prelude.{◌≡◌, ◌↔◌, [], None, Ok, List, ℕ};
-ghost use Rattle.ntfs_index.specs.Blocks.{BlockMap};
+ghost use Rattle.ntfs_index.specs.Blocks.{BlockMap, allocation_blocks};
 ghost use Rattle.ntfs_index.specs.Node.{root_node, root_vcn, visits};
-ghost use Rattle.ntfs_index.specs.Walk.{walk, listing, blocks_met};
+ghost use Rattle.ntfs_index.specs.Walk.{walk, walk_allocation, listing, blocks_met};
 ghost use Rattle.ntfs_index.specs.Tree.{IsIndex, AreDistinct, index_entries, index_blocks};
 ghost use Rattle.ntfs_index.specs.Laws.{AgreeOnMet, HasNoChild, own_entries};
 
@@ -11,6 +11,15 @@ ghost use Rattle.ntfs_index.specs.Laws.{AgreeOnMet, HasNoChild, own_entries};
 pub fn walk_depends_on_blocks_met(root: &[u8], size: u32)
     ensures { (a b : BlockMap) → AgreeOnMet a b (blocks_met (walk size root.now a)) →
         walk size root.now b ≡ walk size root.now a }
+{}
+
+/// The walk of an index in an allocation depends on the blocks of it that it met: other bytes of the allocation may be any,
+/// and it may be longer.
+pub fn walk_of_an_allocation_depends_on_blocks_met(root: &[u8], cluster: u32, size: u32)
+    ensures { (a b : List ℕ) →
+        AgreeOnMet (allocation_blocks cluster size a) (allocation_blocks cluster size b)
+        (blocks_met (walk_allocation cluster size root.now a)) →
+        walk_allocation cluster size root.now b ≡ walk_allocation cluster size root.now a }
 {}
 
 /// A walk meets no block twice, whether it is whole or not.

@@ -5,6 +5,7 @@ mod allocation;
 mod blocks;
 mod entry;
 mod fault;
+pub mod laws;
 mod layout;
 mod memory;
 mod node;
@@ -12,7 +13,6 @@ mod path;
 #[cfg(test)]
 mod tests;
 mod walk;
-pub mod laws;
 
 pub use allocation::{block_place, vcn_unit};
 pub use blocks::Blocks;

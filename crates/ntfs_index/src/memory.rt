@@ -44,6 +44,7 @@ impl MemBlocks {
     }
 }
 
+#[tactic(auto, unfolding(ntfs_base::specs::Bytes::piece_at))]
 impl Blocks for MemBlocks {
     ghost use Rattle.std.specs.Prelude.{◌≡◌, ◌↔◌, ◌+◌, ◌≤◌, Some, None, Err, length, IsTrue, OnOk};
     ghost use Rattle.ntfs_base.specs.Causes.{Rose};

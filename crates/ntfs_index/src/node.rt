@@ -88,7 +88,10 @@ fn is_root(size: u32, root: &[u8]) -> bool
     ensures value { result ≡ spec.is_root size root.now }
     ensures fields { result ≡ true → 32 ≤ length root.now }
 {
-    root.len() >= 32 && root_type(root) == 0x30 && collation_rule(root) == 1 && index_block_size(root) == size
+    root.len() >= 32
+        && root_type(root) == 0x30
+        && collation_rule(root) == 1
+        && index_block_size(root) == size
 }
 
 /// The root of an index, at its first entry, on a volume whose blocks have this size.

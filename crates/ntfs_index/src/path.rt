@@ -48,7 +48,12 @@ fn zeros(alloc: Global, size: usize) -> Result<Vec<u8>, AllocError>
 
 /// Fetches the block of a VCN and opens it.
 #[tactic(auto, unfolding(crate::specs::Node::block_node))]
-fn fetch<B: Blocks>(alloc: Global, size: u32, blocks: &mut B, vcn: u64) -> Result<OpenNode, IndexFault>
+fn fetch<B: Blocks>(
+    alloc: Global,
+    size: u32,
+    blocks: &mut B,
+    vcn: u64,
+) -> Result<OpenNode, IndexFault>
     requires size { IsBlockSize size }
     requires blocks { (B.seen blocks.old).size ≡ size }
     ensures told { IfBlocks B.Blocks blocks.old (λ map. Gives index_origin entry_at (block_node map vcn) result) }
@@ -75,7 +80,13 @@ fn show(key: &mut Vec<u8>, bytes: &[u8]) -> Result<(), AllocError>
 
 impl Path {
     /// Goes down to the child of the present entry.
-    fn enter<B: Blocks>(&mut self, alloc: Global, size: u32, blocks: &mut B, vcn: u64) -> Result<(), IndexFault>
+    fn enter<B: Blocks>(
+        &mut self,
+        alloc: Global,
+        size: u32,
+        blocks: &mut B,
+        vcn: u64,
+    ) -> Result<(), IndexFault>
         requires path { IsPath self.old }
         requires child { self.old.present.entered ≡ false }
         requires size { IsBlockSize size }

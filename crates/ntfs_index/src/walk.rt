@@ -38,8 +38,14 @@ impl Model for Walk {
 
     ghost Value = { WalkState };
 
-    ghost view = { λ w. record { size = w.size; present = left_in w.path.present; above = map left_in w.path.above.items;
-        met = w.path.met.keys; key = w.key.items; fault = w.fault } };
+    ghost view = { λ w. record {
+      size = w.size;
+      present = left_in w.path.present;
+      above = map left_in w.path.above.items;
+      met = w.path.met.keys;
+      key = w.key.items;
+      fault = w.fault;
+    } };
 
     ghost invariant = { λ w. IsPath w.path × IsBlockSize w.size };
 }

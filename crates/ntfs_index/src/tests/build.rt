@@ -9,6 +9,7 @@ use std::alloc::{AllocError, Global};
 
 /// The root, in a row or a patch; and nothing, in a row's child or entry.
 pub const ROOT: u64 = u64::MAX;
+
 pub const NONE: u64 = u64::MAX;
 
 /// An entry of a node: the root, or a block by its number from 0 on.
@@ -88,7 +89,11 @@ pub fn geometry(cluster: u32, block: u32) -> Geometry
 /// An entry with a key of this length, whose name has `units` units: the fields, the key, and the child's VCN at a multiple
 /// of 8. The key begins with the reference, and is filled with its lowest byte.
 pub fn entry(alloc: Global, row: &Row, key: u16, units: u8) -> Result<Vec<u8>, AllocError> {
-    let (ends, key) = if row.entry == NONE { (2u8, 0) } else { (0, key) };
+    let (ends, key) = if row.entry == NONE {
+        (2u8, 0)
+    } else {
+        (0, key)
+    };
     let (child, eight) = if row.child == NONE { (0u8, 0) } else { (1, 8) };
     let plain = (key.wrapping_add(7) / 8 * 8).wrapping_add(16);
     let length = plain.wrapping_add(eight);
@@ -176,13 +181,22 @@ pub fn block(alloc: Global, vcn: u64, size: u32, entries: &[u8]) -> Result<Vec<u
     put(&mut bytes, 0x00, b"INDX\x28\0");
     put(&mut bytes, 0x06, &(words as u16).to_le_bytes());
     put(&mut bytes, 0x10, &vcn.to_le_bytes());
-    header(&mut bytes, 0x18, (0x28 + 2 * words as usize + 7) / 8 * 8 - 0x18, entries);
+    header(
+        &mut bytes,
+        0x18,
+        (0x28 + 2 * words as usize + 7) / 8 * 8 - 0x18,
+        entries,
+    );
     guard(&mut bytes);
     Ok(bytes)
 }
 
 /// A tree of these rows: its root, and its blocks, of 1,024 bytes each, as the volume's clusters are.
-pub fn tree(alloc: Global, rows: &[Row], patches: &[Patch]) -> Result<(Vec<u8>, MemBlocks), AllocError>
+pub fn tree(
+    alloc: Global,
+    rows: &[Row],
+    patches: &[Patch],
+) -> Result<(Vec<u8>, MemBlocks), AllocError>
     ensures { IfOk result (λ made. made.1.size ≡ 1024) }
 {
     let geometry = geometry(1024, 1024);
@@ -229,7 +243,12 @@ fn patch(bytes: &mut [u8], patches: &[Patch], node: u64) {
 
 /// What a walk gives, as text: each entry's reference, and the end, each with the number of blocks that were asked for by
 /// then behind a dot. The end must come again without another block asked for.
-pub fn told(alloc: Global, root: &[u8], geometry: &Geometry, blocks: &mut MemBlocks) -> Result<String, AllocError>
+pub fn told(
+    alloc: Global,
+    root: &[u8],
+    geometry: &Geometry,
+    blocks: &mut MemBlocks,
+) -> Result<String, AllocError>
     requires block { IsBlockSize geometry.now.block }
     requires size { blocks.old.size ≡ geometry.now.block }
 {

@@ -13,10 +13,15 @@ use std::alloc::{AllocError, Global};
 use std::process::Abort;
 use std::test::Fail;
 
-/// The key of an entry that `build::entry` makes: the reference in 8 bytes, then its lowest byte.
-fn is_key(key: &[u8], len: usize, reference: u8) -> bool {
+/// The key of an entry that `build::entry` makes: the reference in 8 bytes, then its lowest byte, but for the units.
+fn is_key(key: &[u8], len: usize, reference: u8, units: u8) -> bool {
     for (i, byte) in key.iter().enumerate() {
-        if *byte != if i == 0 || 8 <= i { reference } else { 0 } {
+        let want = match i {
+            0x40 => units,
+            1..=7 => 0,
+            _ => reference,
+        };
+        if *byte != want {
             return false;
         }
     }
@@ -28,22 +33,40 @@ fn gives(rt: &impl Abort, walk: &mut Walk, blocks: &mut MemBlocks, reference: u8
     ensures { blocks.new.size ≡ walk.new.size }
 {
     let given = walk.next(blocks);
-    assert_eq!(rt; given, Ok(Some(Entry { reference: u64::from(reference) })));
-    assert!(rt; is_key(walk.key(), 66, reference));
+    assert_eq!(rt;
+        given,
+        Ok(Some(Entry {
+            reference: u64::from(reference)
+        }))
+    );
+    assert!(rt; is_key(walk.key(), 66, reference, 0));
 }
 
-fn breaks(rt: &impl Abort, walk: &mut Walk, blocks: &mut MemBlocks, fault: IndexFault, reference: u8)
+fn breaks(
+    rt: &impl Abort,
+    walk: &mut Walk,
+    blocks: &mut MemBlocks,
+    fault: IndexFault,
+    reference: u8,
+)
     requires { blocks.old.size ≡ walk.old.size }
     ensures { blocks.new.size ≡ walk.new.size }
 {
     let given = walk.next(blocks);
     assert_eq!(rt; given, Err(fault));
-    assert!(rt; is_key(walk.key(), 66, reference));
+    assert!(rt; is_key(walk.key(), 66, reference, 0));
 }
 
 #[test]
 fn the_key_is_that_of_the_last_entry(rt: HostRuntime) -> Result<(), Fail> {
-    let rows = [above(ROOT, 4, 0), end_above(ROOT, 1), own(0, 2), end(0), own(1, 9), end(1)];
+    let rows = [
+        above(ROOT, 4, 0),
+        end_above(ROOT, 1),
+        own(0, 2),
+        end(0),
+        own(1, 9),
+        end(1),
+    ];
     let (root, mut blocks) = tree(rt.alloc(), &rows, &[(1, 0x38, 8)])?;
     let Ok(mut walk) = start(rt.alloc(), &root, &geometry(1024, 1024)) else {
         panic!(rt; "no walk");
@@ -57,33 +80,43 @@ fn the_key_is_that_of_the_last_entry(rt: HostRuntime) -> Result<(), Fail> {
     Ok(())
 }
 
-/// One entry with a key of this length and a name of so many units, and the end.
-fn lone(alloc: Global, key: u16, units: u8) -> Result<Vec<u8>, AllocError> {
-    let mut bytes = entry(alloc, &own(ROOT, u64::from(units)), key, units)?;
+/// One entry with a reference, a key of this length and a name of so many units, and the end.
+fn lone(alloc: Global, reference: u64, key: u16, units: u8) -> Result<Vec<u8>, AllocError> {
+    let mut bytes = entry(alloc, &own(ROOT, reference), key, units)?;
     bytes.extend_from_slice(&entry(alloc, &end(ROOT), 0, 0)?)?;
     Ok(bytes)
 }
 
 fn check_key(rt: &impl Abort, alloc: Global, key: u16, units: u8) -> Result<(), Fail> {
     let geometry = geometry(1024, 1024);
-    let entries = lone(alloc, key, units)?;
+    let entries = lone(alloc, 7, key, units)?;
     assert!(rt; entries.len() <= 100_000);
     let root = root(alloc, 1024, &entries)?;
     let mut blocks = MemBlocks::new(alloc, Vec::new(alloc), &geometry);
     let Ok(mut walk) = start(alloc, &root, &geometry) else {
         panic!(rt; "no walk");
     };
-    let reference = u64::from(units);
-    assert_eq!(rt; walk.next(&mut blocks), Ok(Some(Entry { reference })), "{key}");
-    assert!(rt; is_key(walk.key(), usize::from(key), units), "{key}");
+    assert_eq!(rt;
+        walk.next(&mut blocks),
+        Ok(Some(Entry { reference: 7 })),
+        "{key}"
+    );
+    assert!(rt; is_key(walk.key(), usize::from(key), 7, units), "{key}");
     assert_eq!(rt; walk.next(&mut blocks), Ok(None), "{key}");
-    assert!(rt; is_key(walk.key(), usize::from(key), units), "{key}");
+    assert!(rt; is_key(walk.key(), usize::from(key), 7, units), "{key}");
     Ok(())
 }
 
 #[test]
 fn keys_have_any_length(rt: HostRuntime) -> Result<(), Fail> {
-    for (key, units) in [(66, 0), (67, 0), (68, 1), (576, 255), (577, 255), (65_512, 255)] {
+    for (key, units) in [
+        (66, 0),
+        (67, 0),
+        (68, 1),
+        (576, 255),
+        (577, 255),
+        (65_512, 255),
+    ] {
         check_key(&rt, rt.alloc(), key, units)?;
     }
     Ok(())
@@ -93,10 +126,10 @@ fn keys_have_any_length(rt: HostRuntime) -> Result<(), Fail> {
 fn two_blocks(alloc: Global, size: u32, vcn: u64) -> Result<Vec<u8>, AllocError>
     requires { IsBlockSize size }
 {
-    let mut first = lone(alloc, 66, 2)?;
-    let mut second = lone(alloc, 66, 4)?;
-    first.truncate(104);
-    second.truncate(104);
+    let mut first = lone(alloc, 2, 66, 0)?;
+    let mut second = lone(alloc, 4, 66, 0)?;
+    first.truncate(1000);
+    second.truncate(1000);
     let mut bytes = block(alloc, 0, size, &first)?;
     bytes.extend_from_slice(&block(alloc, vcn, size, &second)?)?;
     Ok(bytes)
@@ -113,19 +146,23 @@ fn a_vcn_counts_clusters_or_sectors(rt: HostRuntime) -> Result<(), Fail> {
         (4096, 4096, 4096, 1, 2),
         (8192, 4096, 512, 8, 9),
         (512, 65_536, 512, 128, 129),
-        (65_536, 65_536, 65_536, 1, u64::MAX),
+        (65_536, 65_536, 65_536, 1, u64::MAX - 1),
     ] {
         assert!(rt; 0 < cluster && size % 512 == 0 && 1024 <= size && size <= 65_536);
         let geometry = geometry(cluster, size);
         assert_eq!(rt; vcn_unit(&geometry), unit, "{cluster} {size}");
-        let rows = [above(ROOT, 5, vcn), end_above(ROOT, outside), own(ROOT, 0)];
+        let rows = [
+            above(ROOT, 3, 0),
+            above(ROOT, 5, vcn),
+            end_above(ROOT, outside),
+        ];
         let entries = entries(rt.alloc(), &rows, ROOT)?;
         assert!(rt; entries.len() <= 100_000);
         let root = root(rt.alloc(), size, &entries)?;
         let bytes = two_blocks(rt.alloc(), size, vcn)?;
         let mut blocks = MemBlocks::new(rt.alloc(), bytes, &geometry);
         let got = told(rt.alloc(), &root, &geometry, &mut blocks)?;
-        let want = format!(in rt.alloc(); "4.1 5.1 rule 7 at {outside}.2")?;
+        let want = format!(in rt.alloc(); "2.1 3.1 4.2 5.2 rule 7 at {outside}.3")?;
         assert_eq!(rt; got, want, "{cluster} {size}");
     }
     Ok(())
@@ -138,14 +175,8 @@ fn each_call_fails_alone(rt: HostRuntime) -> Result<(), Fail> {
         (2, "block fault.2"),
         (3, "2.2 4.2 6.2 block fault.3"),
         (4, "2.2 4.2 6.2 7.3 8.3 block fault.4"),
-        (
-            5,
-            "2.2 4.2 6.2 7.3 8.3 10.4 11.4 12.4 13.4 block fault.5",
-        ),
-        (
-            6,
-            "2.2 4.2 6.2 7.3 8.3 10.4 11.4 12.4 13.4 whole.5",
-        ),
+        (5, "2.2 4.2 6.2 7.3 8.3 10.4 11.4 12.4 13.4 block fault.5"),
+        (6, "2.2 4.2 6.2 7.3 8.3 10.4 11.4 12.4 13.4 whole.5"),
     ] {
         let (root, mut blocks) = tree(rt.alloc(), &uneven(), &[])?;
         blocks.calls.fail(number, Leaves::Before)?;

@@ -20,7 +20,13 @@ fn rows() -> [Row; 7] {
     ]
 }
 
-fn check(rt: &impl Abort, alloc: Global, name: &str, patches: &[Patch], want: &str) -> Result<(), Fail> {
+fn check(
+    rt: &impl Abort,
+    alloc: Global,
+    name: &str,
+    patches: &[Patch],
+    want: &str,
+) -> Result<(), Fail> {
     let (root, mut blocks) = tree(alloc, &rows(), patches)?;
     let got = told(alloc, &root, &geometry(1024, 1024), &mut blocks)?;
     assert_eq!(rt; got.as_str(), want, "{name}");
@@ -39,12 +45,7 @@ fn a_root_breaks_a_rule(rt: HostRuntime) -> Result<(), Fail> {
         ("first entry behind", 0x10, 0xE8, "rule 3 at root.0"),
         ("use behind the root", 0x14, 0xE1, "rule 3 at root.0"),
         ("no byte in use", 0x14, 0x10, "rule 4 at root.0"),
-        (
-            "no end in use",
-            0x14,
-            0xC8,
-            "1.0 2.1 3.1 rule 4 at root.1",
-        ),
+        ("no end in use", 0x14, 0xC8, "1.0 2.1 3.1 rule 4 at root.1"),
     ] {
         check(&rt, rt.alloc(), name, &[(ROOT, place, byte)], want)?;
     }
@@ -61,12 +62,7 @@ fn an_entry_of_the_root_breaks_a_rule(rt: HostRuntime) -> Result<(), Fail> {
         ("key without a name", 0x2A, 0x41, "rule 5 at root.0"),
         ("name behind the key", 0x70, 1, "rule 5 at root.0"),
         ("key over the child", 0x82, 0x49, "1.0 rule 5 at root.0"),
-        (
-            "the end's child",
-            0xE0,
-            16,
-            "1.0 2.1 3.1 rule 5 at root.1",
-        ),
+        ("the end's child", 0xE0, 16, "1.0 2.1 3.1 rule 5 at root.1"),
         ("the end's key", 0xE2, 0xFF, "1.0 2.1 3.1 4.2 whole.2"),
         ("other flags", 0x2C, 4, "1.0 2.1 3.1 4.2 whole.2"),
     ] {
@@ -98,15 +94,45 @@ fn a_block_breaks_a_rule(rt: HostRuntime) -> Result<(), Fail> {
 fn the_first_of_two_rules_is_named(rt: HostRuntime) -> Result<(), Fail> {
     for (name, one, two, want) in [
         ("1, 2", (0, 0x00, b'X'), (0, 0x10, 9), "1.0 rule 1 at 0.1"),
-        ("1, 3", (0, 0x00, b'X'), (0, 0x18, 0x14), "1.0 rule 1 at 0.1"),
+        (
+            "1, 3",
+            (0, 0x00, b'X'),
+            (0, 0x18, 0x14),
+            "1.0 rule 1 at 0.1",
+        ),
         ("2, 3", (0, 0x10, 9), (0, 0x18, 0x14), "1.0 rule 2 at 0.1"),
         ("3, 4", (0, 0x18, 0x14), (0, 0x38, 8), "1.0 rule 3 at 0.1"),
         ("4, 5", (0, 0x38, 8), (0, 0x3A, 0x49), "1.0 rule 4 at 0.1"),
-        ("1, 3 of a root", (ROOT, 0, 0x31), (ROOT, 0x10, 8), "rule 1 at root.0"),
-        ("5, then 4", (ROOT, 0x2A, 0x49), (ROOT, 0x80, 8), "rule 5 at root.0"),
-        ("4, then 7", (ROOT, 0x80, 0x61), (ROOT, 0xD0, 9), "1.0 rule 4 at root.0"),
-        ("5, then 7", (ROOT, 0x82, 0x49), (ROOT, 0xD0, 9), "1.0 rule 5 at root.0"),
-        ("7, then 5", (ROOT, 0xD0, 9), (ROOT, 0xE0, 16), "1.0 rule 7 at 9.1"),
+        (
+            "1, 3 of a root",
+            (ROOT, 0, 0x31),
+            (ROOT, 0x10, 8),
+            "rule 1 at root.0",
+        ),
+        (
+            "5, then 4",
+            (ROOT, 0x2A, 0x49),
+            (ROOT, 0x80, 8),
+            "rule 5 at root.0",
+        ),
+        (
+            "4, then 7",
+            (ROOT, 0x80, 0x61),
+            (ROOT, 0xD0, 9),
+            "1.0 rule 4 at root.0",
+        ),
+        (
+            "5, then 7",
+            (ROOT, 0x82, 0x49),
+            (ROOT, 0xD0, 9),
+            "1.0 rule 5 at root.0",
+        ),
+        (
+            "7, then 5",
+            (ROOT, 0xD0, 9),
+            (ROOT, 0xE0, 16),
+            "1.0 rule 7 at 9.1",
+        ),
     ] {
         check(&rt, rt.alloc(), name, &[one, two], want)?;
     }

@@ -100,12 +100,7 @@ fn a_17th_level_is_too_deep(rt: HostRuntime) -> Result<(), Fail> {
             3,
             "1.0 9.14 rule 6 at 3.14",
         ),
-        (
-            "a 16th level outside",
-            14,
-            77,
-            "1.0 9.14 rule 7 at 77.15",
-        ),
+        ("a 16th level outside", 14, 77, "1.0 9.14 rule 7 at 77.15"),
     ] {
         let rows = chain(rt.alloc(), blocks, child)?;
         check(&rt, rt.alloc(), name, &rows, want)?;
@@ -115,12 +110,7 @@ fn a_17th_level_is_too_deep(rt: HostRuntime) -> Result<(), Fail> {
 
 #[test]
 fn a_block_is_met_once(rt: HostRuntime) -> Result<(), Fail> {
-    let siblings = [
-        above(ROOT, 3, 0),
-        end_above(ROOT, 0),
-        own(0, 2),
-        end(0),
-    ];
+    let siblings = [above(ROOT, 3, 0), end_above(ROOT, 0), own(0, 2), end(0)];
     let parents = [
         above(ROOT, 5, 0),
         end_above(ROOT, 1),
