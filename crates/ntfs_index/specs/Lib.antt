@@ -1,0 +1,13 @@
+pub use Rattle.ntfs_base.specs.Bytes
+pub mod Layout
+pub mod Node
+pub mod Blocks
+pub mod Walk
+pub mod Tree
+pub mod Entry
+pub mod Fetches
+pub mod Path
+pub mod State
+pub mod Sized
+pub mod MemBlocks
+pub mod Laws
