@@ -84,6 +84,7 @@ mod tests {
     use std::test::Fail;
 
     /// Words, of which the first is the program's own name.
+    #[derive(Drop)]
     struct Given<'a>(&'a [&'a [u8]]);
 
     impl Env for Given<'_> {
