@@ -1,2 +1,4 @@
 pub mod Seen
 pub mod Counting
+pub mod Disk
+pub mod Waiting

@@ -1,3 +1,7 @@
+ghost use Rattle.std.specs.Prelude.{◌≡◌, ◌≤◌, ◌<◌, ◌+◌, ◌↔◌, ◌^◌, length, IsOk, IfOk, OnOk};
+ghost use Rattle.ntfs_host.specs.Disk.{MayWrite, MaySetLength};
+
+use crate::access::Access;
 use crate::counting::counted;
 use ntfs_base::{Failed, Faults, HostFile, Image, PutFault};
 use std::fs::File;
@@ -11,8 +15,11 @@ use std::os::unix::fs::{FileExt, FileTypeExt};
 pub struct DiskFile {
     pub(crate) name: String,
     pub(crate) file: File,
+    pub(crate) access: Access,
     /// In bytes: as it was when the file was opened, and as the calls since then have left it.
     pub(crate) size: u64,
+    /// In bytes: where the system lets a file end. Past it the system would end the program, so nothing is written there.
+    pub(crate) limit: u64,
     pub(crate) faults: Faults,
 }
 
@@ -20,40 +27,109 @@ impl DiskFile {
     ghost use Rattle.std.specs.Prelude.{◌≡◌};
 
     /// An open file under a name, with no fault yet.
-    pub(crate) fn new(name: String, file: File, size: u64) -> DiskFile
+    pub(crate) fn new(name: String, file: File, access: Access, extent: Extent) -> DiskFile
         ensures name { result.name ≡ name }
-        ensures size { result.size ≡ size }
+        ensures access { result.access ≡ access }
+        ensures size { result.size ≡ extent.size }
+        ensures limit { result.limit ≡ extent.limit }
         ensures reads { result.faults.reads ≡ 0 }
         ensures writes { result.faults.writes ≡ 0 }
     {
         DiskFile {
             name,
             file,
-            size,
+            access,
+            size: extent.size,
+            limit: extent.limit,
             faults: Faults {
                 reads: 0,
                 writes: 0,
             },
         }
     }
+
+    /// Whether so many bytes may be written from a place on.
+    fn check_write(&self, at: u64, count: u64) -> io::Result<()>
+        ensures may { IsOk result ↔ MayWrite self.now at count }
+        ensures fits { OnOk result (at + count < 2 ^ 64) }
+    {
+        if self.access == Access::ReadOnly {
+            return Err(io::Error::from(ErrorKind::PermissionDenied));
+        }
+        if at > self.limit || count > self.limit - at {
+            return Err(io::Error::from(ErrorKind::FileTooLarge));
+        }
+        Ok(())
+    }
+
+    fn write_whole(&self, at: u64, bytes: &[u8]) -> io::Result<()>
+        ensures { OnOk result (MayWrite self.now at (length bytes.now)) }
+    {
+        self.check_write(at, bytes.len() as u64)?;
+        self.file.write_all_at(bytes, at)
+    }
+
+    /// Writes the bytes behind the last one, and answers besides where those end that were surely written.
+    fn write_behind(&self, bytes: &[u8]) -> (u64, io::Result<()>)
+        ensures least { self.now.size ≤ result.0 }
+        ensures most { result.0 ≤ self.now.size + length bytes.now }
+        ensures whole { OnOk result.1 (result.0 ≡ self.now.size + length bytes.now) }
+        ensures may { OnOk result.1 (MayWrite self.now self.now.size (length bytes.now)) }
+    {
+        if let Err(error) = self.check_write(self.size, bytes.len() as u64) {
+            return (self.size, Err(error));
+        }
+        write_from(&self.file, self.size, bytes)
+    }
+
+    fn change_length(&self, len: u64) -> io::Result<()>
+        ensures { OnOk result (MaySetLength self.now len) }
+    {
+        self.check_write(0, if len > self.size { len } else { 0 })?;
+        self.file.set_len(len)
+    }
 }
 
-/// The length of a file or a block device, in bytes. Nothing else has one: a directory, a pipe or a terminal is refused.
-pub(crate) fn size_of(file: &mut File) -> io::Result<u64> {
+/// How long a file is, and where the system lets it end, in bytes.
+#[derive(Clone, Copy)]
+pub(crate) struct Extent {
+    pub(crate) size: u64,
+    pub(crate) limit: u64,
+}
+
+/// What getrlimit is asked for the greatest size of a file.
+const RLIMIT_FSIZE: i32 = 1;
+
+/// Where the system lets a file end that this process writes.
+fn size_limit() -> u64 {
+    let mut limit = libc::types::rlimit {
+        rlim_cur: u64::MAX,
+        rlim_max: u64::MAX,
+    };
+    libc::getrlimit(RLIMIT_FSIZE, &mut limit);
+    limit.rlim_cur
+}
+
+/// A file has a length, and a block device. Nothing else has one: a directory, a pipe or a terminal is refused.
+pub(crate) fn extent_of(file: &mut File) -> io::Result<Extent> {
     let about = file.metadata()?;
     if about.is_file() {
-        return Ok(about.len());
+        return Ok(Extent {
+            size: about.len(),
+            limit: size_limit(),
+        });
     }
     if about.file_type().is_block_device() {
-        return file.seek(SeekFrom::End(0));
+        return Ok(Extent {
+            size: file.seek(SeekFrom::End(0))?,
+            limit: u64::MAX,
+        });
     }
     Err(io::Error::from(ErrorKind::InvalidInput))
 }
 
-ghost use Rattle.std.specs.Prelude.{◌≡◌, ◌≤◌, ◌<◌, ◌+◌, length, IfOk, OnOk};
-
 /// One write, made anew where a signal interrupted it. It writes at least one byte.
-fn write_once(file: &File, at: u64, bytes: &[u8]) -> io::Result<usize>
+fn write_once<F: FileExt>(file: &F, at: u64, bytes: &[u8]) -> io::Result<usize>
     ensures some { IfOk result (λ n. 0 < n) }
     ensures most { IfOk result (λ n. n ≤ length bytes.now) }
 {
@@ -68,14 +144,12 @@ fn write_once(file: &File, at: u64, bytes: &[u8]) -> io::Result<usize>
 }
 
 /// Writes the bytes from a place on, and answers besides where those end that were surely written.
-fn write_from(file: &File, at: u64, bytes: &[u8]) -> (u64, io::Result<()>)
+pub(crate) fn write_from<F: FileExt>(file: &F, at: u64, bytes: &[u8]) -> (u64, io::Result<()>)
+    requires { at + length bytes.now < 2 ^ 64 }
     ensures least { at ≤ result.0 }
     ensures most { result.0 ≤ at + length bytes.now }
     ensures whole { OnOk result.1 (result.0 ≡ at + length bytes.now) }
 {
-    if bytes.len() as u64 > u64::MAX - at {
-        return (at, Err(io::Error::from(ErrorKind::FileTooLarge)));
-    }
     let mut done = 0;
     'writes: while done < bytes.len() {
         match write_once(file, at + done as u64, &bytes[done..]) {
@@ -87,7 +161,7 @@ fn write_from(file: &File, at: u64, bytes: &[u8]) -> (u64, io::Result<()>)
 }
 
 impl Image for DiskFile {
-    ghost use Rattle.std.specs.Prelude.{◌≡◌, [], ◌∷◌};
+    ghost use Rattle.std.specs.Prelude.{◌≡◌, [], ◌∷◌, length, OnOk};
     ghost use Rattle.std.proofs.lemmas.Bool.{false≢true};
     ghost use Rattle.ntfs_base.specs.Calls.{count_after};
     ghost use Rattle.ntfs_base.specs.Writes.{Wrote};
@@ -106,21 +180,26 @@ impl Image for DiskFile {
     fn read_at(&mut self, at: u64, into: &mut [u8]) -> Result<(), Failed>
         ensures seen { seen_file self.new ≡ seen_file self.old }
         ensures counted { self.new.faults ≡ record self.old.faults { reads = count_after self.old.faults.reads result } }
+        ensures access { self.new.access ≡ self.old.access }
     {
         counted(&mut self.faults.reads, self.file.read_exact_at(into, at))
     }
 
     fn write_at(&mut self, at: u64, bytes: &[u8]) -> Result<(), Failed>
+        ensures may { OnOk result (MayWrite self.old at (length bytes.now)) }
         ensures wrote { Wrote (record { place = at; bytes = bytes.now } ∷ []) (seen_file self.old) result (seen_file self.new) }
         ensures seen { seen_file self.new ≡ seen_file self.old }
         ensures counted { self.new.faults ≡ record self.old.faults { writes = count_after self.old.faults.writes result } }
+        ensures access { self.new.access ≡ self.old.access }
     {
-        counted(&mut self.faults.writes, self.file.write_all_at(bytes, at))
+        let written = self.write_whole(at, bytes);
+        counted(&mut self.faults.writes, written)
     }
 
     fn sync(&mut self) -> Result<(), Failed>
         ensures seen { seen_file self.new ≡ seen_file self.old }
         ensures counted { self.new.faults ≡ record self.old.faults { writes = count_after self.old.faults.writes result } }
+        ensures access { self.new.access ≡ self.old.access }
     {
         counted(&mut self.faults.writes, self.file.sync_data())
     }
@@ -134,12 +213,15 @@ impl HostFile for DiskFile {
 
     /// After `Failed` the kept length is the old one.
     fn set_len(&mut self, len: u64) -> Result<(), PutFault>
+        ensures may { OnOk result (MaySetLength self.old len) }
         ensures set { SetLength len (seen_file self.old) result (seen_file self.new) }
         ensures same { OnErr result (seen_file self.new ≡ seen_file self.old) }
         ensures failed { IfErr result (λ fault. fault ≡ PutFault.Failed) }
         ensures counted { self.new.faults ≡ record self.old.faults { writes = count_after self.old.faults.writes result } }
+        ensures access { self.new.access ≡ self.old.access }
     {
-        match counted(&mut self.faults.writes, self.file.set_len(len)) {
+        let answer = self.change_length(len);
+        match counted(&mut self.faults.writes, answer) {
             Ok(()) => {
                 self.size = len;
                 Ok(())
@@ -150,11 +232,13 @@ impl HostFile for DiskFile {
 
     /// Writes at the kept length, which grows by what was surely written, also where the call failed.
     fn append(&mut self, bytes: &[u8]) -> Result<(), PutFault>
+        ensures may { OnOk result (MayWrite self.old self.old.size (length bytes.now)) }
         ensures appended { Appended bytes.now (seen_file self.old) result (seen_file self.new) }
         ensures failed { IfErr result (λ fault. fault ≡ PutFault.Failed) }
         ensures counted { self.new.faults ≡ record self.old.faults { writes = count_after self.old.faults.writes result } }
+        ensures access { self.new.access ≡ self.old.access }
     {
-        let (end, answer) = write_from(&self.file, self.size, bytes);
+        let (end, answer) = self.write_behind(bytes);
         self.size = end;
         match counted(&mut self.faults.writes, answer) {
             Ok(()) => Ok(()),

@@ -1,16 +1,21 @@
+ghost use Rattle.std.specs.Prelude.{◌≡◌, IfOk};
+
+use crate::access::Access;
 use crate::counting::{create_refused, refused};
-use crate::disk_file::{DiskFile, size_of};
-use ntfs_base::{Faults, Shelf, ShelfFault, remove_name};
+use crate::disk_file::{DiskFile, Extent, extent_of};
+use ntfs_base::{Faults, Shelf, ShelfFault, one_more, remove_name};
 use std::alloc::Global;
 use std::fs::{File, Files, OpenOptions};
 use std::io;
 use std::io::ErrorKind;
+use std::os::unix::fs::FileTypeExt;
 
-/// The files of the system, by their paths. It opens each for reading and writing and, where that is refused, for reading
-/// alone; writes to such a file fail.
+/// The files of the system, by their paths. Where they are only read, it opens each for reading alone and makes none. Else it
+/// opens each for reading and writing and, where that is refused, for reading alone; writes to such a file fail.
 #[derive(Drop)]
 pub struct DiskShelf<R> {
     pub(crate) files: R,
+    pub(crate) access: Access,
     /// The names that are attached now, the last one first.
     pub(crate) attached: Vec<String>,
     pub faults: Faults,
@@ -21,13 +26,15 @@ impl<R> DiskShelf<R> {
     ghost use Rattle.ntfs_host.specs.Seen.{seen_shelf};
 
     /// The files that a runtime reaches, of which none is attached. It takes no memory.
-    pub fn new(alloc: Global, files: R) -> DiskShelf<R>
+    pub fn new(alloc: Global, files: R, access: Access) -> DiskShelf<R>
         ensures attached { (seen_shelf result).attached ≡ [] }
+        ensures access { result.access ≡ access }
         ensures reads { result.faults.reads ≡ 0 }
         ensures writes { result.faults.writes ≡ 0 }
     {
         DiskShelf {
             files,
+            access,
             attached: Vec::new(alloc),
             faults: Faults {
                 reads: 0,
@@ -37,18 +44,51 @@ impl<R> DiskShelf<R> {
     }
 }
 
-fn open<R: Files<File = File>>(files: &R, name: &str) -> io::Result<(File, u64)> {
-    let mut file = match OpenOptions::new().read(true).write(true).open(files, name) {
-        Ok(file) => file,
-        Err(_) => File::open(files, name)?,
-    };
-    let size = size_of(&mut file)?;
-    Ok((file, size))
+/// Opens a file, and tells what may be done with it. What is neither a file nor a block device isn't opened: a pipe would wait
+/// for a writer, and a device may act.
+fn open<R: Files<File = File>>(
+    files: &R,
+    access: Access,
+    name: &str,
+) -> io::Result<(File, Access, Extent)>
+    ensures { IfOk result (λ opened. access ≡ Access.ReadOnly → opened.1 ≡ Access.ReadOnly) }
+{
+    let about = files.metadata(name)?;
+    if !about.is_file() && !about.file_type().is_block_device() {
+        return Err(io::Error::from(ErrorKind::InvalidInput));
+    }
+    let (mut file, access) = open_as(files, access, name)?;
+    let extent = extent_of(&mut file)?;
+    Ok((file, access, extent))
+}
+
+/// Opens a file for what is asked or, where that is refused, for reading alone.
+fn open_as<R: Files<File = File>>(
+    files: &R,
+    access: Access,
+    name: &str,
+) -> io::Result<(File, Access)>
+    ensures { IfOk result (λ opened. access ≡ Access.ReadOnly → opened.1 ≡ Access.ReadOnly) }
+{
+    if access == Access::ReadWrite {
+        let opened = OpenOptions::new().read(true).write(true).open(files, name);
+        if let Ok(file) = opened {
+            return Ok((file, Access::ReadWrite));
+        }
+    }
+    let file = File::open(files, name)?;
+    Ok((file, Access::ReadOnly))
 }
 
 /// Makes an empty file. One that is there is emptied, unless the file must be new; what can't be emptied, as a device, is
 /// refused.
-fn make<R: Files<File = File>>(files: &R, name: &str, must_be_new: bool) -> io::Result<File> {
+fn make<R: Files<File = File>>(
+    files: &R,
+    name: &str,
+    must_be_new: bool,
+) -> io::Result<(File, Extent)>
+    ensures { IfOk result (λ made. made.1.size ≡ 0) }
+{
     let mut file = OpenOptions::new()
         .read(true)
         .write(true)
@@ -56,16 +96,17 @@ fn make<R: Files<File = File>>(files: &R, name: &str, must_be_new: bool) -> io::
         .truncate(true)
         .create_new(must_be_new)
         .open(files, name)?;
-    if size_of(&mut file)? > 0 {
+    let extent = extent_of(&mut file)?;
+    if extent.size > 0 {
         return Err(io::Error::from(ErrorKind::InvalidInput));
     }
-    Ok(file)
+    Ok((file, extent))
 }
 
 impl<R: Files<File = File>> Shelf for DiskShelf<R> {
     type File = DiskFile;
 
-    ghost use Rattle.std.specs.Prelude.{◌≡◌, ◌≢◌, IfOk, IfErr, IsTrue, OnOk, OnErr};
+    ghost use Rattle.std.specs.Prelude.{◌≡◌, ◌≢◌, IfOk, IfErr, IsTrue, Err, OnOk, OnErr};
     ghost use Rattle.ntfs_base.specs.Shelf.{IsHandedOut, IsCreated, after_attach, after_create};
     ghost use Rattle.ntfs_host.specs.Counting.{faults_after, faults_after_create};
     ghost use Rattle.ntfs_host.specs.Seen.{seen_file, seen_shelf};
@@ -75,6 +116,8 @@ impl<R: Files<File = File>> Shelf for DiskShelf<R> {
     ghost faults = { λ shelf. shelf.faults };
 
     fn attach(&mut self, name: &str) -> Result<DiskFile, ShelfFault>
+        ensures only_read { IfOk result (λ file. self.old.access ≡ Access.ReadOnly → file.access ≡ Access.ReadOnly) }
+        ensures access { self.new.access ≡ self.old.access }
         ensures file { IfOk result (λ file. IsHandedOut (seen_shelf self.old) name.now (seen_file file) file.faults) }
         ensures attached { OnOk result (seen_shelf self.new ≡ after_attach name.now (seen_shelf self.old)) }
         ensures refused { OnErr result (seen_shelf self.new ≡ seen_shelf self.old) }
@@ -86,16 +129,19 @@ impl<R: Files<File = File>> Shelf for DiskShelf<R> {
         let text = String::from_str(alloc, name)?;
         let bears = text.clone()?;
         self.attached.reserve(1)?;
-        match open(&self.files, name) {
-            Ok((file, size)) => {
+        match open(&self.files, self.access, name) {
+            Ok((file, access, extent)) => {
                 self.attached.insert(0, text).unwrap();
-                Ok(DiskFile::new(bears, file, size))
+                Ok(DiskFile::new(bears, file, access, extent))
             }
             Err(error) => Err(refused(&mut self.faults, &error)),
         }
     }
 
     fn create(&mut self, name: &str, must_be_new: bool) -> Result<DiskFile, ShelfFault>
+        ensures only_read { self.old.access ≡ Access.ReadOnly → result ≡ Err ShelfFault.Failed }
+        ensures writable { IfOk result (λ file. file.access ≡ Access.ReadWrite) }
+        ensures access { self.new.access ≡ self.old.access }
         ensures file { IfOk result (λ file. IsCreated (seen_shelf self.old) name.now must_be_new (seen_file file) file.faults) }
         ensures created { OnOk result (seen_shelf self.new ≡ after_create name.now (seen_shelf self.old)) }
         ensures refused { OnErr result (seen_shelf self.new ≡ seen_shelf self.old) }
@@ -104,14 +150,18 @@ impl<R: Files<File = File>> Shelf for DiskShelf<R> {
         ensures never_absent { IfErr result (λ fault. fault ≢ ShelfFault.Absent) }
         ensures present { IfErr result (λ fault. fault ≡ ShelfFault.Present → IsTrue must_be_new) }
     {
+        if self.access == Access::ReadOnly {
+            self.faults.writes = one_more(self.faults.writes);
+            return Err(ShelfFault::Failed);
+        }
         let alloc = *self.attached.allocator();
         let text = String::from_str(alloc, name)?;
         let bears = text.clone()?;
         self.attached.reserve(1)?;
         match make(&self.files, name, must_be_new) {
-            Ok(file) => {
+            Ok((file, extent)) => {
                 self.attached.insert(0, text).unwrap();
-                Ok(DiskFile::new(bears, file, 0))
+                Ok(DiskFile::new(bears, file, Access::ReadWrite, extent))
             }
             Err(error) => Err(create_refused(&mut self.faults, must_be_new, &error)),
         }
@@ -121,7 +171,9 @@ impl<R: Files<File = File>> Shelf for DiskShelf<R> {
         let DiskFile {
             name,
             file: _,
+            access: _,
             size: _,
+            limit: _,
             faults,
         } = file;
         remove_name(&mut self.attached, name.as_str());

@@ -1,13 +1,16 @@
 ghost use Rattle.std.specs.Prelude.{◌≡◌, false};
 ghost use Rattle.ntfs_base.specs.Shelf.{has_name};
 
-use crate::{DiskShelf, StdInput, StdMessages, StdOutput};
+use crate::disk_file::{Extent, write_from};
+use crate::{Access, DiskFile, DiskShelf, StandIns, StdInput, StdMessages, StdOutput};
 use ntfs_base::{
     Failed, FileSink, FileSource, HostFile, Image, PutFault, Shelf, ShelfFault, Sink, Source,
 };
 use std::alloc::Allocator;
-use std::fs::{Files, Metadata, OpenOptions};
+use std::cell::Cell;
+use std::fs::{File, Files, Metadata, OpenOptions};
 use std::io::{ErrorKind, Read, Write};
+use std::os::unix::fs::FileExt;
 use std::process::Abort;
 use std::test::Fail;
 use std::{fs, io};
@@ -40,7 +43,10 @@ impl<R: Files> Files for Refusing<R> {
     }
 
     fn metadata(&self, path: &str) -> io::Result<Metadata> {
-        self.files.metadata(path)
+        match self.reading {
+            Some(kind) => Err(io::Error::from(kind)),
+            None => self.files.metadata(path),
+        }
     }
 
     fn symlink_metadata(&self, path: &str) -> io::Result<Metadata> {
@@ -151,7 +157,7 @@ fn sync_any<I: Image>(image: &mut I) -> Result<(), Failed>
 fn a_file_is_written_and_found_again(rt: HostRuntime) -> Result<(), Fail> {
     let name = "host_written.img";
     fs::write(&rt, name, [7u8; 5000].as_slice())?;
-    let mut shelf = DiskShelf::new(rt.alloc(), &rt);
+    let mut shelf = DiskShelf::new(rt.alloc(), &rt, Access::ReadWrite);
     let mut file = shelf.attach(name)?;
     assert_eq!(rt; file.len(), 5000);
     file.write_at(4998, b"ab")?;
@@ -169,7 +175,7 @@ fn a_file_is_written_and_found_again(rt: HostRuntime) -> Result<(), Fail> {
 
 #[test]
 fn a_missing_file_is_absent_and_a_directory_fails(rt: HostRuntime) {
-    let mut shelf = DiskShelf::new(rt.alloc(), &rt);
+    let mut shelf = DiskShelf::new(rt.alloc(), &rt, Access::ReadWrite);
     assert!(rt;
         matches!(
             attach_any(&mut shelf, "host_missing.img"),
@@ -177,7 +183,7 @@ fn a_missing_file_is_absent_and_a_directory_fails(rt: HostRuntime) {
         )
     );
     assert_eq!(rt; shelf.faults.reads, 0);
-    let mut shelf = DiskShelf::new(rt.alloc(), &rt);
+    let mut shelf = DiskShelf::new(rt.alloc(), &rt, Access::ReadWrite);
     assert!(rt; matches!(shelf.attach("."), Err(ShelfFault::Failed)));
     assert_eq!(rt; shelf.faults.reads, 1);
 }
@@ -186,7 +192,7 @@ fn a_missing_file_is_absent_and_a_directory_fails(rt: HostRuntime) {
 fn a_file_that_became_shorter_fails(rt: HostRuntime) -> Result<(), Fail> {
     let name = "host_shorter.img";
     fs::write(&rt, name, [7u8; 512].as_slice())?;
-    let mut shelf = DiskShelf::new(rt.alloc(), &rt);
+    let mut shelf = DiskShelf::new(rt.alloc(), &rt, Access::ReadWrite);
     let mut file = shelf.attach(name)?;
     fs::write(&rt, name, [7u8; 100].as_slice())?;
     assert_eq!(rt; file.len(), 512);
@@ -208,7 +214,7 @@ fn a_file_that_is_opened_for_reading_alone_refuses_writes(rt: HostRuntime) -> Re
         writing: ErrorKind::PermissionDenied,
         reading: None,
     };
-    let mut shelf = DiskShelf::new(rt.alloc(), files);
+    let mut shelf = DiskShelf::new(rt.alloc(), files, Access::ReadWrite);
     let mut file = attach_any(&mut shelf, name)?;
     assert_eq!(rt; file.len(), 16);
     let mut byte = [0u8; 1];
@@ -236,7 +242,7 @@ fn an_error_of_the_system_gives_its_refusal(rt: HostRuntime) {
             writing: kind,
             reading: Some(kind),
         };
-        let mut shelf = DiskShelf::new(rt.alloc(), files);
+        let mut shelf = DiskShelf::new(rt.alloc(), files, Access::ReadWrite);
         assert_eq!(rt; shelf.attach("host_refused.img").err(), Some(refusal));
         assert_eq!(rt; shelf.faults.reads, reads);
     }
@@ -246,7 +252,7 @@ fn an_error_of_the_system_gives_its_refusal(rt: HostRuntime) {
 fn a_file_is_made_cut_and_extended(rt: HostRuntime) -> Result<(), Fail> {
     let name = "host_made.img";
     let _ = fs::remove_file(&rt, name);
-    let mut shelf = DiskShelf::new(rt.alloc(), &rt);
+    let mut shelf = DiskShelf::new(rt.alloc(), &rt, Access::ReadWrite);
     for (must_be_new, bytes, answer) in [
         (true, b"abc".as_slice(), Ok(Ok(()))),
         (true, b"x", Err(ShelfFault::Present)),
@@ -285,7 +291,7 @@ fn a_file_that_is_not_made_has_its_refusal(rt: HostRuntime) {
             writing: kind,
             reading: None,
         };
-        let mut shelf = DiskShelf::new(rt.alloc(), files);
+        let mut shelf = DiskShelf::new(rt.alloc(), files, Access::ReadWrite);
         assert_eq!(rt;
             shelf.create("host_unmade.img", must_be_new).err(),
             Some(refusal)
@@ -294,7 +300,7 @@ fn a_file_that_is_not_made_has_its_refusal(rt: HostRuntime) {
         assert_eq!(rt; shelf.faults.reads, 0);
         assert!(rt; shelf.attached.is_empty());
     }
-    let mut shelf = DiskShelf::new(rt.alloc(), &rt);
+    let mut shelf = DiskShelf::new(rt.alloc(), &rt, Access::ReadWrite);
     assert_eq!(rt; shelf.create(".", false).err(), Some(ShelfFault::Failed));
     assert_eq!(rt; shelf.faults.writes, 1);
 }
@@ -302,7 +308,7 @@ fn a_file_that_is_not_made_has_its_refusal(rt: HostRuntime) {
 #[test]
 fn a_file_is_a_sink_and_a_source(rt: HostRuntime) -> Result<(), Fail> {
     let name = "host_stream.img";
-    let mut shelf = DiskShelf::new(rt.alloc(), &rt);
+    let mut shelf = DiskShelf::new(rt.alloc(), &rt, Access::ReadWrite);
     let mut sink = FileSink::new(shelf.create(name, false)?);
     assert_eq!(rt; put_any(&mut sink, b"abc"), Ok(()));
     assert_eq!(rt; put_any(&mut sink, b"de"), Ok(()));
@@ -376,7 +382,7 @@ fn files_are_whole(rt: &impl Abort, host: &HostRuntime) -> Result<bool, Fail> {
         return Ok(false);
     }
     let is_made = StdOutput::new(host.alloc(), host.stdout()).is_ok();
-    let mut shelf = DiskShelf::new(host.alloc(), host);
+    let mut shelf = DiskShelf::new(host.alloc(), host, Access::ReadWrite);
     assert!(rt; shelf.attached.is_empty());
     let attached = len_any(&mut shelf, name);
     assert!(rt; attached == Ok(3) || attached == Err(ShelfFault::NoMemory));
@@ -393,5 +399,270 @@ fn files_are_whole(rt: &impl Abort, host: &HostRuntime) -> Result<bool, Fail> {
 #[test]
 fn with_ample_memory_files_are_attached_and_made(rt: HostRuntime) -> Result<(), Fail> {
     assert!(rt; files_are_whole(&rt, &rt)?);
+    Ok(())
+}
+
+#[test]
+fn a_shelf_of_files_that_are_only_read_changes_none(rt: HostRuntime) -> Result<(), Fail> {
+    let name = "host_only_read.img";
+    fs::write(&rt, name, b"abc".as_slice())?;
+    let mut shelf = DiskShelf::new(rt.alloc(), &rt, Access::ReadOnly);
+    let mut file = attach_any(&mut shelf, name)?;
+    assert_eq!(rt; file.len(), 3);
+    assert_eq!(rt; file.write_at(0, b"x"), Err(Failed));
+    assert_eq!(rt; file.set_len(1), Err(PutFault::Failed));
+    assert_eq!(rt; file.append(b"x"), Err(PutFault::Failed));
+    assert_eq!(rt; file.faults.writes, 3);
+    // The system has it open for reading alone as well.
+    assert!(rt; file.file.write_at(b"x", 0).is_err());
+    let mut bytes = [0u8; 3];
+    assert_eq!(rt; file.read_at(0, &mut bytes), Ok(()));
+    assert_eq!(rt; bytes, *b"abc");
+    let mut shelf = DiskShelf::new(rt.alloc(), &rt, Access::ReadOnly);
+    for must_be_new in [true, false] {
+        assert_eq!(rt;
+            shelf.create("host_unmade.img", must_be_new).err(),
+            Some(ShelfFault::Failed)
+        );
+    }
+    assert_eq!(rt; shelf.faults.writes, 2);
+    assert!(rt; fs::metadata(&rt, "host_unmade.img").is_err());
+    fs::remove_file(&rt, name)?;
+    Ok(())
+}
+
+#[test]
+fn what_has_no_length_is_no_image(rt: HostRuntime) {
+    for access in [Access::ReadOnly, Access::ReadWrite] {
+        for name in [".", "/dev/null", "/dev/zero", "/dev/full"] {
+            let mut shelf = DiskShelf::new(rt.alloc(), &rt, access);
+            assert_eq!(rt;
+                shelf.attach(name).err(),
+                Some(ShelfFault::Failed),
+                "{name}"
+            );
+            assert_eq!(rt; shelf.faults.reads, 1);
+        }
+    }
+    for name in ["/dev/null", "/dev/zero", "/dev/full"] {
+        let mut shelf = DiskShelf::new(rt.alloc(), &rt, Access::ReadWrite);
+        assert_eq!(rt;
+            shelf.create(name, false).err(),
+            Some(ShelfFault::Failed),
+            "{name}"
+        );
+        assert_eq!(rt; shelf.faults.writes, 1);
+    }
+}
+
+#[test]
+fn a_sync_is_asked_of_the_system(rt: HostRuntime) -> Result<(), Fail> {
+    let name = String::from_str(rt.alloc(), "/dev/null")?;
+    let extent = Extent {
+        size: 0,
+        limit: u64::MAX,
+    };
+    // What is written there can't be synced.
+    let device = File::open(&rt, "/dev/null")?;
+    let mut file = DiskFile::new(name, device, Access::ReadWrite, extent);
+    assert_eq!(rt; file.sync(), Err(Failed));
+    assert_eq!(rt; file.faults.writes, 1);
+    Ok(())
+}
+
+#[test]
+fn nothing_is_written_past_the_limit(rt: HostRuntime) -> Result<(), Fail> {
+    let name = "host_limited.img";
+    fs::write(&rt, name, b"abcdefgh".as_slice())?;
+    let mut shelf = DiskShelf::new(rt.alloc(), &rt, Access::ReadWrite);
+    let mut file = shelf.attach(name)?;
+    file.limit = 10;
+    assert_eq!(rt; file.append(b"ij"), Ok(()));
+    assert_eq!(rt; file.append(b"k"), Err(PutFault::Failed));
+    assert_eq!(rt; file.write_at(9, b"J"), Ok(()));
+    assert_eq!(rt; file.write_at(9, b"JK"), Err(Failed));
+    assert_eq!(rt; file.write_at(u64::MAX, b"K"), Err(Failed));
+    assert_eq!(rt; file.set_len(11), Err(PutFault::Failed));
+    assert_eq!(rt; file.faults.writes, 4);
+    assert_eq!(rt; file.len(), 10);
+    let mut all = [0u8; 10];
+    assert_eq!(rt; file.read_at(0, &mut all), Ok(()));
+    assert_eq!(rt; all, *b"abcdefghiJ");
+    // A file that is longer already may become shorter.
+    file.limit = 2;
+    assert_eq!(rt; file.set_len(4), Ok(()));
+    assert_eq!(rt; fs::metadata(&rt, name)?.len(), 4);
+    fs::remove_file(&rt, name)?;
+    Ok(())
+}
+
+/// A file that takes two bytes a write, is interrupted before each, and has room for so many.
+#[derive(Drop)]
+struct Slow {
+    bytes: Cell<[u8; 8]>,
+    room: u64,
+    calls: Cell<u32>,
+}
+
+impl FileExt for Slow {
+    fn read_at(&self, _into: &mut [u8], _at: u64) -> io::Result<usize> {
+        Err(io::Error::from(ErrorKind::Unsupported))
+    }
+
+    fn write_at(&self, bytes: &[u8], at: u64) -> io::Result<usize> {
+        let call = self.calls.get();
+        self.calls.set(call.wrapping_add(1));
+        if call % 2 == 0 {
+            return Err(io::Error::from(ErrorKind::Interrupted));
+        }
+        let mut kept = self.bytes.get();
+        let mut count = 0usize;
+        for (byte, place) in bytes.iter().take(2).zip(at..self.room) {
+            if let Some(old) = kept.get_mut(place as usize) {
+                *old = *byte;
+                count = count.wrapping_add(1);
+            }
+        }
+        self.bytes.set(kept);
+        Ok(bytes.len().min(count))
+    }
+}
+
+#[test]
+fn an_append_goes_on_where_a_write_ended(rt: HostRuntime) {
+    for (room, end, left) in [
+        (8, 7, *b"..abcde."),
+        (6, 6, *b"..abcd.."),
+        (5, 5, *b"..abc..."),
+        (2, 2, *b"........"),
+    ] {
+        let file = Slow {
+            bytes: Cell::new(*b"........"),
+            room,
+            calls: Cell::new(0),
+        };
+        let (done, answer) = write_from(&file, 2, b"abcde");
+        assert_eq!(rt; done, end);
+        assert_eq!(rt; answer.is_ok(), room == 8);
+        assert_eq!(rt; file.bytes.get(), left);
+    }
+}
+
+/// A stream that keeps how long each write was and its bytes, and of which one call fails.
+#[derive(Drop)]
+struct Noted {
+    writes: Vec<usize>,
+    bytes: Vec<u8>,
+    fails_at: usize,
+}
+
+impl Write for Noted {
+    fn write(&mut self, bytes: &[u8]) -> io::Result<usize> {
+        self.writes
+            .push(bytes.len())
+            .map_err(|_| ErrorKind::OutOfMemory)?;
+        if self.writes.len() == self.fails_at {
+            return Err(io::Error::from(ErrorKind::StorageFull));
+        }
+        self.bytes.extend_from_slice(bytes)?;
+        Ok(bytes.len())
+    }
+
+    fn flush(&mut self) -> io::Result<()> {
+        Ok(())
+    }
+}
+
+fn noting_messages(rt: &HostRuntime, fails_at: usize) -> StdMessages<Noted> {
+    StdMessages::new(Noted {
+        writes: Vec::new(rt.alloc()),
+        bytes: Vec::new(rt.alloc()),
+        fails_at,
+    })
+}
+
+#[test]
+fn a_line_is_written_at_once(rt: HostRuntime) -> Result<(), Fail> {
+    let mut messages = noting_messages(&rt, 0);
+    for piece in [
+        "tool: ",
+        "no such file: ",
+        "a name",
+        "\n",
+        "one\ntwo",
+        " three",
+        "\n",
+        "",
+    ] {
+        assert_eq!(rt; put_any(&mut messages, piece.as_bytes()), Ok(()));
+    }
+    assert_eq!(rt; messages.writer.writes.as_slice(), [27, 14].as_slice());
+    assert_eq!(rt; put_any(&mut messages, b"no end"), Ok(()));
+    assert_eq!(rt; messages.writer.writes.len(), 2);
+    assert_eq!(rt; messages.flush(), Ok(()));
+    assert_eq!(rt; messages.flush(), Ok(()));
+    assert_eq!(rt; messages.writer.writes.as_slice(), [27, 14, 6].as_slice());
+    let text = b"tool: no such file: a name\none\ntwo three\nno end".as_slice();
+    assert_eq!(rt; messages.writer.bytes.as_slice(), text);
+    Ok(())
+}
+
+#[test]
+fn a_text_longer_than_the_room_goes_out_in_pieces(rt: HostRuntime) -> Result<(), Fail> {
+    let mut messages = noting_messages(&rt, 0);
+    let long = [7u8; 9000];
+    for (piece, writes) in [
+        (b"ab".as_slice(), 0),
+        (long.as_slice(), 2),
+        (b"c", 2),
+        (&long[..8192], 3),
+        (b"\n", 5),
+    ] {
+        assert_eq!(rt; put_any(&mut messages, piece), Ok(()));
+        assert_eq!(rt; messages.writer.writes.len(), writes);
+    }
+    assert_eq!(rt;
+        messages.writer.writes.as_slice(),
+        [2, 9000, 1, 8192, 1].as_slice()
+    );
+    assert_eq!(rt; messages.writer.bytes.len(), 17_196);
+    assert_eq!(rt;
+        &messages.writer.bytes.as_slice()[..3],
+        b"ab\x07".as_slice()
+    );
+    Ok(())
+}
+
+#[test]
+fn a_message_that_is_not_written_is_counted_where_that_shows(rt: HostRuntime) {
+    let mut messages = noting_messages(&rt, 1);
+    assert_eq!(rt; messages.put(b"a line"), Ok(()));
+    assert_eq!(rt; messages.put(b"\n"), Err(PutFault::Failed));
+    assert_eq!(rt; messages.faults.failures, 1);
+    assert!(rt; !messages.is_flushed);
+    assert_eq!(rt; messages.flush(), Ok(()));
+    let mut messages = noting_messages(&rt, 1);
+    assert_eq!(rt; messages.put(b"no end"), Ok(()));
+    assert_eq!(rt; messages.flush(), Err(Failed));
+    assert_eq!(rt; messages.faults.failures, 1);
+    assert!(rt; !messages.is_flushed);
+    // It isn't written a second time.
+    assert_eq!(rt; messages.flush(), Ok(()));
+    assert!(rt; messages.writer.bytes.is_empty());
+}
+
+#[test]
+fn nothing_stands_in_for_an_open_stream(rt: HostRuntime) -> Result<(), Fail> {
+    let files = Refusing {
+        files: &rt,
+        writing: ErrorKind::PermissionDenied,
+        reading: Some(ErrorKind::PermissionDenied),
+    };
+    let held = StandIns::open(&files, &rt.stdin(), &rt.stdout(), &rt.stderr())?;
+    assert!(rt; held.input.is_none() && held.output.is_none() && held.messages.is_none());
+    // What would stand in is neither read nor written.
+    let mut folder = File::open(&rt, "/")?;
+    assert!(rt; folder.read(&mut [0u8; 1]).is_err());
+    assert!(rt; folder.write(b"x").is_err());
     Ok(())
 }

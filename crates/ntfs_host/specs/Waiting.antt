@@ -1,0 +1,12 @@
+-- What standard error has been given. The words are ours.
+use Rattle.std.specs.Prelude.{◌≡◌, ◌-◌, ℕ, List, Option, Some, length, slice_get}
+use Rattle.std.specs.Io.KnownBytes.{append_known}
+use Rattle.arrayvec.specs.ArrayVec.{ArrayVec}
+
+-- the last byte is a line feed
+abbrev pub EndsLine : List ℕ → Type 0
+EndsLine bytes = slice_get bytes (length bytes - 1) ≡ Some 10
+
+-- what the writer holds, where that is known, and then what waits
+abbrev pub messages_contents : {W : Type 0} → (W → Option (List ℕ)) → W → ArrayVec ℕ → Option (List ℕ)
+messages_contents contents writer waiting = append_known (contents writer) waiting.items
