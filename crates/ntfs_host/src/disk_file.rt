@@ -3,8 +3,9 @@ ghost use Rattle.ntfs_host.specs.Disk.{MayWrite, MaySetLength};
 
 use crate::access::Access;
 use crate::counting::counted;
+use crate::limits::size_limit;
 use ntfs_base::{Failed, Faults, HostFile, Image, PutFault};
-use std::fs::File;
+use std::fs::{File, Files};
 use std::io;
 use std::io::{ErrorKind, Seek, SeekFrom};
 use std::os::unix::fs::{FileExt, FileTypeExt};
@@ -97,26 +98,13 @@ pub(crate) struct Extent {
     pub(crate) limit: u64,
 }
 
-/// What getrlimit is asked for the greatest size of a file.
-const RLIMIT_FSIZE: i32 = 1;
-
-/// Where the system lets a file end that this process writes.
-fn size_limit() -> u64 {
-    let mut limit = libc::types::rlimit {
-        rlim_cur: u64::MAX,
-        rlim_max: u64::MAX,
-    };
-    libc::getrlimit(RLIMIT_FSIZE, &mut limit);
-    limit.rlim_cur
-}
-
 /// A file has a length, and a block device. Nothing else has one: a directory, a pipe or a terminal is refused.
-pub(crate) fn extent_of(file: &mut File) -> io::Result<Extent> {
+pub(crate) fn extent_of<R: Files<File = File>>(files: &R, file: &mut File) -> io::Result<Extent> {
     let about = file.metadata()?;
     if about.is_file() {
         return Ok(Extent {
             size: about.len(),
-            limit: size_limit(),
+            limit: size_limit(files),
         });
     }
     if about.file_type().is_block_device() {

@@ -58,7 +58,7 @@ fn open<R: Files<File = File>>(
         return Err(io::Error::from(ErrorKind::InvalidInput));
     }
     let (mut file, access) = open_as(files, access, name)?;
-    let extent = extent_of(&mut file)?;
+    let extent = extent_of(files, &mut file)?;
     Ok((file, access, extent))
 }
 
@@ -96,7 +96,7 @@ fn make<R: Files<File = File>>(
         .truncate(true)
         .create_new(must_be_new)
         .open(files, name)?;
-    let extent = extent_of(&mut file)?;
+    let extent = extent_of(files, &mut file)?;
     if extent.size > 0 {
         return Err(io::Error::from(ErrorKind::InvalidInput));
     }

@@ -6,6 +6,7 @@ mod counting;
 mod disk_file;
 mod disk_shelf;
 mod input;
+mod limits;
 mod messages;
 mod output;
 mod stand_ins;

@@ -31,6 +31,9 @@ impl<F> StandIns<F> {
     }
 }
 
+/// What the system answers to a call on a descriptor under which no file is open.
+const BAD_DESCRIPTOR: i32 = 9;
+
 /// The root folder, opened for reading, where a stream is closed: a folder can neither be read as a file nor written.
 fn stand_in<R: Files, S: AsFd>(files: &R, stream: &S) -> Result<Option<R::File>, Failed> {
     if !is_closed(stream) {
@@ -47,6 +50,6 @@ fn stand_in<R: Files, S: AsFd>(files: &R, stream: &S) -> Result<Option<R::File>,
 fn is_closed<S: AsFd>(stream: &S) -> bool {
     match stream.as_fd().try_clone_to_owned() {
         Ok(_) => false,
-        Err(error) => error.raw_os_error() == Some(libc::EBADF),
+        Err(error) => error.raw_os_error() == Some(BAD_DESCRIPTOR),
     }
 }
