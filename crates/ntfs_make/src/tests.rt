@@ -209,7 +209,7 @@ fn fails_at(
     whole: &[u8],
 ) -> Result<(), Fail> {
     let mut image = blank(alloc, clusters, 512)?;
-    image.inside.calls.fail(number, leaves)?;
+    image.inside.calls.fail(alloc, number, leaves)?;
     let result = attempt(rt, alloc, &mut image, 7, clusters, 512);
     assert_eq!(rt; result, Err(MakeFault::WriteFault));
     assert_eq!(rt; image.inside.faults.writes, 1);

@@ -108,7 +108,7 @@ fn run_image(
     bytes: Vec<u8>,
 ) -> Result<(Status, Vec<u8>, Vec<u8>), AllocError> {
     let mut shelf = MemShelf::new(alloc);
-    shelf.add("v", bytes)?;
+    shelf.add(alloc, "v", bytes)?;
     let mut out = MemSink::new(alloc);
     let mut err = MemSink::new(alloc);
     let status = run_words(alloc, words, &mut shelf, &mut out, &mut err)?;
@@ -346,7 +346,7 @@ fn shelf_of_v0(alloc: Global) -> Result<MemShelf, AllocError>
     ensures { IfOk result (λ shelf. (seen_mem_shelf shelf.places.items shelf.attached.items).attached ≡ []) }
 {
     let mut shelf = MemShelf::new(alloc);
-    shelf.add("v", image(alloc, V0_LEN, &V0)?)?;
+    shelf.add(alloc, "v", image(alloc, V0_LEN, &V0)?)?;
     Ok(shelf)
 }
 
@@ -369,7 +369,7 @@ fn a_fault_of_the_shelf_is_a_read_fault(rt: HostRuntime) -> Result<(), Fail> {
     assert_eq!(rt; calls, 2);
     for number in 1..3 {
         let mut shelf = shelf_of_v0(alloc)?;
-        shelf.fail("v", number, Leaves::Before)?;
+        shelf.fail(alloc, "v", number, Leaves::Before)?;
         let mut out = MemSink::new(alloc);
         let mut err = MemSink::new(alloc);
         let status = run_words(alloc, &INFO, &mut shelf, &mut out, &mut err)?;
@@ -397,7 +397,7 @@ fn a_fault_of_the_output_is_a_write_fault(rt: HostRuntime) -> Result<(), Fail> {
     ] {
         let mut shelf = shelf_of_v0(alloc)?;
         let mut out = MemSink::new(alloc);
-        out.calls.fail(number, leaves)?;
+        out.calls.fail(alloc, number, leaves)?;
         let mut err = MemSink::new(alloc);
         let status = run_words(alloc, &INFO, &mut shelf, &mut out, &mut err)?;
         assert_eq!(rt; status, Status::WriteFault);
@@ -421,7 +421,7 @@ fn a_fault_of_the_messages_changes_no_status(rt: HostRuntime) -> Result<(), Fail
         let mut shelf = shelf_of_v0(alloc)?;
         let mut out = MemSink::new(alloc);
         let mut err = MemSink::new(alloc);
-        err.calls.fail(number, Leaves::Front { bytes: 2 })?;
+        err.calls.fail(alloc, number, Leaves::Front { bytes: 2 })?;
         let status = run_words(
             alloc,
             &["ntfsinfo", "-m", "w"],

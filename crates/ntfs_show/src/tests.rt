@@ -500,7 +500,7 @@ fn each_read_failing_alone_leaves_a_front(rt: HostRuntime) -> Result<(), Fail> {
     let alloc = rt.alloc();
     for (number, count) in [(1, 0), (2, 0), (3, 0), (4, 0), (5, 1024)] {
         let mut image = MemImage::new(alloc, volume(alloc)?);
-        image.inside.calls.fail(number, Leaves::Before)?;
+        image.inside.calls.fail(alloc, number, Leaves::Before)?;
         let mut out = MemSink::new(alloc);
         let mut want = Vec::new(alloc);
         push(&mut want, 50, count, 0)?;
@@ -525,7 +525,7 @@ fn each_put_failing_alone_leaves_a_front(rt: HostRuntime) -> Result<(), Fail> {
     ] {
         let mut image = MemImage::new(alloc, volume(alloc)?);
         let mut out = MemSink::new(alloc);
-        out.calls.fail(number, leaves)?;
+        out.calls.fail(alloc, number, leaves)?;
         let mut want = Vec::new(alloc);
         push(&mut want, 50, counts.0, 0)?;
         push(&mut want, 49, counts.1, 0)?;

@@ -373,7 +373,7 @@ fn shelf_of(alloc: Global, bytes: Vec<u8>) -> Result<MemShelf, AllocError>
     ensures { IfOk result (λ shelf. (seen_mem_shelf shelf.places.items shelf.attached.items).attached ≡ []) }
 {
     let mut shelf = MemShelf::new(alloc);
-    shelf.add("v", bytes)?;
+    shelf.add(alloc, "v", bytes)?;
     Ok(shelf)
 }
 
@@ -403,7 +403,7 @@ fn a_fault_of_the_image_is_a_read_fault(rt: HostRuntime) -> Result<(), Fail> {
     for before in 0..calls {
         let number = before + 1;
         let mut shelf = shelf_of(alloc, small_volume(alloc)?)?;
-        shelf.fail("v", number, Leaves::Before)?;
+        shelf.fail(alloc, "v", number, Leaves::Before)?;
         let mut out = MemSink::new(alloc);
         let mut err = MemSink::new(alloc);
         let status = run_words(alloc, &TWO_RUNS, &mut shelf, &mut out, &mut err)?;
@@ -426,7 +426,7 @@ fn fails_at(
 ) -> Result<(), Fail> {
     let mut shelf = shelf_of(alloc, small_volume(alloc)?)?;
     let mut out = MemSink::new(alloc);
-    out.calls.fail(number, leaves)?;
+    out.calls.fail(alloc, number, leaves)?;
     let mut err = MemSink::new(alloc);
     let status = run_words(alloc, &TWO_RUNS, &mut shelf, &mut out, &mut err)?;
     assert_eq!(rt; status, Status::WriteFault);

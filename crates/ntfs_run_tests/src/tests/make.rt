@@ -134,7 +134,7 @@ fn fails_at(
 ) -> Result<(), Fail> {
     let blank = zeros(alloc, 1024)?;
     let mut shelf = MemShelf::new(alloc);
-    shelf.fail("v", number, leaves)?;
+    shelf.fail(alloc, "v", number, leaves)?;
     let fault = "ntfsmake: write fault\n";
     runs(rt, alloc, &SMALL, &mut shelf, Status::WriteFault, "", fault)?;
     assert_eq!(rt; shelf.faults.writes, 1);
@@ -174,7 +174,7 @@ fn a_fault_of_the_output_of_ntfsmake_leaves_no_file(rt: HostRuntime) -> Result<(
     let alloc = rt.alloc();
     let mut shelf = MemShelf::new(alloc);
     let mut out = MemSink::new(alloc);
-    out.calls.fail(1, Leaves::Before)?;
+    out.calls.fail(alloc, 1, Leaves::Before)?;
     let mut err = MemSink::new(alloc);
     let status = run_words(alloc, &SMALL, &mut shelf, &mut out, &mut err)?;
     assert_eq!(rt; status, Status::WriteFault);
@@ -189,10 +189,10 @@ fn a_fault_of_the_messages_of_ntfsmake_changes_no_status(rt: HostRuntime) -> Res
     let alloc = rt.alloc();
     for number in [1, 2, 3] {
         let mut shelf = MemShelf::new(alloc);
-        shelf.add("v", zeros(alloc, 1)?)?;
+        shelf.add(alloc, "v", zeros(alloc, 1)?)?;
         let mut out = MemSink::new(alloc);
         let mut err = MemSink::new(alloc);
-        err.calls.fail(number, Leaves::Before)?;
+        err.calls.fail(alloc, number, Leaves::Before)?;
         let status = run_words(alloc, &SMALL, &mut shelf, &mut out, &mut err)?;
         assert_eq!(rt;
             status,
