@@ -43,7 +43,8 @@ static int is_refused(const char *name) {
 
 static void tell(const char *name, long what, long count, long place) {
     char line[128];
-    if (log_to >= 0) syscall(SYS_write, log_to, line, snprintf(line, sizeof line, "%s %ld %ld %ld\n", name, what, count, place));
+    if (log_to < 0) return;
+    syscall(SYS_write, log_to, line, snprintf(line, sizeof line, "%s %ld %ld %ld\n", name, what, count, place));
 }
 
 /* Whether a read or a write fails, with errno set. */

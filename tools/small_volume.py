@@ -1,6 +1,7 @@
-"""Small volumes with streams of one's choice, built from the pieces of the independent generator of bench/, for the tools here.
+"""Small volumes with streams of one's choice, for the tools here, built from pieces of bench/'s independent generator.
 
-Sectors have 512 bytes, records 1,024, and $MFT is one run of 32 records, so that each reader of this repository finds them.
+Sectors have 512 bytes, records 1,024, and $MFT is one run of 32 records, so that each reader of this repository finds
+them.
 """
 
 import pathlib
@@ -27,7 +28,7 @@ class Runs(NamedTuple):
 
 
 class Volume(NamedTuple):
-    """What `build` is told: bytes a cluster, clusters, the first cluster of $MFT, and the stream of each record's number."""
+    """Bytes a cluster, clusters, the first cluster of $MFT, and the stream of each record by its number."""
 
     cluster: int
     clusters: int
@@ -46,8 +47,8 @@ def shown(volume, number):
     if isinstance(stream, bytes):
         return stream
     zeros = bytes(volume.cluster)
-    cells = [zeros if lcn is None else pattern(lcn + place, volume.cluster) for lcn, count in stream.runs for place in range(count)]
-    content = b"".join(cells)
+    cells = [None if lcn is None else lcn + place for lcn, count in stream.runs for place in range(count)]
+    content = b"".join(zeros if lcn is None else pattern(lcn, volume.cluster) for lcn in cells)
     return (content[: stream.valid] + bytes(max(0, len(content) - stream.valid)))[: stream.size]
 
 

@@ -1,10 +1,11 @@
 #!/usr/bin/env python3
-"""Tries the built program where no contract reaches: closed streams, full devices, pipes, limits, odd files, refused calls.
+"""Tries the built program where no contract reaches: closed streams, pipes, limits, odd files, refused calls.
 
-Each run's status, output and messages are compared with what README says, and after each the images are as they were. It
-needs Python alone; with gcc it also stands between the program and the C library (interposed.c) and refuses, interrupts,
-shortens and notes single calls. Usage: tools/try_program.py [--program FILE] [PART ..]. It proves and builds the program first
-unless one is named, and ends with 1 where a run went otherwise. The repository is only read, but for the built program.
+Each run's status, output and messages are compared with what README says, and after each the images are as they were.
+It needs Python alone; with gcc it also stands between the program and the C library (interposed.c) and refuses,
+interrupts, shortens and notes single calls. Usage: tools/try_program.py [--program FILE] [PART ..]. It proves and
+builds the program first unless one is named, and ends with 1 where a run went otherwise. The repository is only read,
+but for the built program.
 """
 
 import argparse
@@ -37,7 +38,7 @@ SECONDS = 60
 SHIM = pathlib.Path(__file__).resolve().parent / "interposed.c"
 READS = os.O_RDONLY
 
-# 300 clusters are more than a mebibyte, 5,000 more than 4,096 clusters. What isn't initialised has other bytes than zeros.
+# 300 clusters are more than a mebibyte, and 5,000 more than 4,096. What isn't initialised has other bytes than zeros.
 PLAIN = Volume(4096, 400, 4, {
     16: b"a resident stream\n" * 10,
     17: Runs(((20, 3), (None, 2), (30, 4)), 9 * 4096 - 7, 6 * 4096 + 3),
@@ -118,7 +119,8 @@ class Trials:
     def expect(self, what, words, status, out=b"", err=b"", **how):
         """Has a run end with this status, output and messages, and leave each image as it was."""
         done = self.run(words, **how)
-        self.check(what, done == Done(status, out, err), f"{words!r:.200} ended with {done!r:.300}, not {status}, {out!r:.100}, {err!r}")
+        wanted = Done(status, out, err)
+        self.check(what, done == wanted, f"{words!r:.200} ended with {done!r:.300}, not {wanted!r:.300}")
         self.unchanged(what)
         return done
 
@@ -186,8 +188,8 @@ def words(trials):
         trials.expect("words", line, status, err=message.encode() + b"\n")
     for line, out in SHOWN:
         trials.expect("words", line, 0, out)
-    for number, line in enumerate(([b"\xff"], ["ntfsinfo", "-m", b"pl\xffain"], [*INFO[0], b"\xed\xa0\x80"], [*LONG[0], "a", b"\xc0"])):
-        trials.expect(f"no text, {number}", line, 16)
+    for line in ([b"\xff"], ["ntfsinfo", "-m", b"pl\xffain"], [*INFO[0], b"\xed\xa0\x80"], [*LONG[0], "a", b"\xc0"]):
+        trials.expect("no text", line, 16)
     many = ["ntfsinfo", *(["x"] * 100_000)]
     trials.expect("100,000 words", many, 1, err=b"ntfsinfo: usage: line\n", limits=[(resource.RLIMIT_AS, 64 << 20)])
 
@@ -225,7 +227,7 @@ def made(trials):
 
 
 def makes(trials, what, wanted, **how):
-    """Has ntfsmake end with what is wanted, and leave the whole volume, or where it didn't a front, zeros or nothing."""
+    """Has ntfsmake end with what is wanted, and leave the volume, or else one with zeros in places, or nothing."""
     whole = trials.whole = getattr(trials, "whole", None) or reference(0, 1024, 4096)
     path = trials.images / "new"
     path.unlink(missing_ok=True)
@@ -268,7 +270,8 @@ def outputs(trials):
         for is_ignored in (True, False):
             reader, writer = os.pipe()
             os.close(reader)
-            trials.expect("no reader", line, 11, err=fault(line, "write"), stdout=writer, restore_signals=not is_ignored)
+            told = fault(line, "write")
+            trials.expect("no reader", line, 11, err=told, stdout=writer, restore_signals=not is_ignored)
             os.close(writer)
     reader, writer = os.pipe()
     fcntl.fcntl(writer, fcntl.F_SETPIPE_SZ, 4096)
@@ -286,7 +289,8 @@ def outputs(trials):
         os.close(writer)
         taken = b"".join(iter(lambda: os.read(reader, 777), b""))
         os.close(reader)
-        trials.check("slow reader", run.result().status == 0 and taken == LONG[1], f"{run.result()}, {len(taken)} bytes")
+        is_whole = run.result().status == 0 and taken == LONG[1]
+        trials.check("slow reader", is_whole, f"{run.result()}, {len(taken)} bytes")
     trials.unchanged("readers")
 
 
@@ -310,9 +314,9 @@ def files(trials):
     for name in ("folder", "pipe", "socket", "/dev/null", "/dev/zero", "/dev/full", "plain/below"):
         for line in (["ntfsinfo", "-m", name], ["ntfscat", "-i", "16", name]):
             trials.expect(name, line, 10, err=fault(line, "read"))
-        done = trials.run(["ntfsmake", name, *MADE])
-        wanted = Done(11, b"", b"ntfsmake: write fault\n") if name == "plain/below" else Done(2, b"", f"ntfsmake: file exists: {name}\n".encode())
-        trials.check(name, done == wanted, done)
+        is_there = name != "plain/below"
+        told = f"ntfsmake: file exists: {name}\n" if is_there else "ntfsmake: write fault\n"
+        trials.expect(name, ["ntfsmake", name, *MADE], 2 if is_there else 11, err=told.encode())
     trials.expect("empty", ["ntfsinfo", "-m", "empty"], 3, err=b"ntfsinfo: image has 0 bytes, needs 512\n")
     trials.expect("dangling", ["ntfsinfo", "-m", "dangling"], 2, err=b"ntfsinfo: no such file: dangling\n")
     trials.expect("dangling", ["ntfsmake", "dangling", *MADE], 2, err=b"ntfsmake: file exists: dangling\n")
@@ -331,7 +335,8 @@ def limits(trials):
     size = 1025 * 4096
     for most, wanted in ((0, 11), (1024, 11), (size - 1, 11), (size, 0), (size + 1, 0)):
         err = b"ntfsmake: write fault\n" if wanted else b""
-        makes(trials, f"files of {most} bytes at most", [Done(wanted, b"", err)], limits=[(resource.RLIMIT_FSIZE, most)])
+        limit = [(resource.RLIMIT_FSIZE, most)]
+        makes(trials, f"files of {most} bytes at most", [Done(wanted, b"", err)], limits=limit)
     for line, out in SHOWN:
         trials.expect("files of no bytes", line, 0, out, limits=[(resource.RLIMIT_FSIZE, 0)])
     with open(trials.folder / "shown", "wb") as file:
@@ -429,8 +434,10 @@ def calls(trials):
         changes = [row for row in made_calls if row[0] in ("pwrite", "ftruncate")]
         trials.check("nothing is written", not changes, f"{line} makes {changes}")
     for number, read in ((19, []), (21, [370, 371]), (17, [20, 21, 22, 30, 31])):
-        cells = {place // 4096 for _, _, _, place in log_of(trials, ["ntfscat", "-i", number, "plain"]) if place >= 20 * 4096}
-        trials.check("only what is initialised is read", sorted(cells) == read, f"stream {number}: {sorted(cells)}")
+        pieces = [row[2:] for row in log_of(trials, ["ntfscat", "-i", number, "plain"]) if row[0] == "pread"]
+        cells = {cell for count, place in pieces for cell in range(place // 4096, -(-(place + count) // 4096))}
+        cells = sorted(cell for cell in cells if cell >= 20)
+        trials.check("only what is initialised is read", cells == read, f"stream {number}: {cells}")
     refused(trials)
 
 
@@ -440,7 +447,7 @@ def after(number):
 
 
 def refused(trials):
-    """Each call of the system refused in turn: its fault comes, and the next call isn't taken for it."""
+    """Single calls of the system refused: their fault comes, with a front of the output or of the writes."""
     for line, out in SHOWN:
         for call, status, kind in (("pread", 10, "read"), ("write", 11, "write"), ("open", 10, "read")):
             number = 1
@@ -457,7 +464,8 @@ def refused(trials):
         number, status = 1, 11
         while status == 11 and number < 5000:
             env = {**trials.shim, "REFUSED": f"{call}:{number}"}
-            status = makes(trials, f"{call} {number}", [Done(11, b"", b"ntfsmake: write fault\n"), Done(0, b"", b"")], env=env).status
+            wanted = [Done(11, b"", b"ntfsmake: write fault\n"), Done(0, b"", b"")]
+            status = makes(trials, f"{call} {number}", wanted, env=env).status
             number = after(number)
         trials.check(call, number > 2, "ntfsmake makes no such call")
     wanting(trials)
@@ -494,7 +502,8 @@ def main():
         for part in chosen:
             before, wrong = trials.count, len(trials.wrong)
             part(trials)
-            print(f"{part.__name__}: {trials.count - before} comparisons, {len(trials.wrong) - wrong} wrong", flush=True)
+            count = len(trials.wrong) - wrong
+            print(f"{part.__name__}: {trials.count - before} comparisons, {count} wrong", flush=True)
     sys.exit(1 if trials.wrong or not chosen else 0)
 
 

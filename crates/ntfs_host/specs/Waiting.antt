@@ -7,6 +7,6 @@ use Rattle.arrayvec.specs.ArrayVec.{ArrayVec}
 abbrev pub EndsLine : List ℕ → Type 0
 EndsLine bytes = slice_get bytes (length bytes - 1) ≡ Some 10
 
--- what the writer holds, where that is known, and then what waits
-abbrev pub messages_contents : {W : Type 0} → (W → Option (List ℕ)) → W → ArrayVec ℕ → Option (List ℕ)
-messages_contents contents writer waiting = append_known (contents writer) waiting.items
+-- what a writer holds, where that is known, and then what waits
+abbrev pub gathered : Option (List ℕ) → ArrayVec ℕ → Option (List ℕ)
+gathered known waiting = append_known known waiting.items

@@ -38,8 +38,8 @@ pub(crate) fn refused(faults: &mut Faults, error: &io::Error) -> ShelfFault
     }
 }
 
-/// Why a file wasn't made: it had to be new and is there, memory was wanting, or else the call failed, which counts as a
-/// write.
+/// Why a file wasn't made: it had to be new and is there, memory was wanting, or else the call failed, which counts as
+/// a write.
 pub(crate) fn create_refused(
     faults: &mut Faults,
     must_be_new: bool,

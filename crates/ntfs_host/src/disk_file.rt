@@ -10,8 +10,8 @@ use std::io;
 use std::io::{ErrorKind, Seek, SeekFrom};
 use std::os::unix::fs::{FileExt, FileTypeExt};
 
-/// An open file or block device. Its length is read when it is opened, and kept: it is what this file's own calls have made
-/// of it since. A file that has become shorter by other hands fails where a read meets its end.
+/// An open file or block device. Its length is read when it is opened, and kept: it is what this file's own calls have
+/// made of it since. A file that has become shorter by other hands fails where a read meets its end.
 #[derive(Drop)]
 pub struct DiskFile {
     pub(crate) name: String,
@@ -19,7 +19,7 @@ pub struct DiskFile {
     pub(crate) access: Access,
     /// In bytes: as it was when the file was opened, and as the calls since then have left it.
     pub(crate) size: u64,
-    /// In bytes: where the system lets a file end. Past it the system would end the program, so nothing is written there.
+    /// In bytes: where the system lets a file end. Past it the system would end the program, so nothing is written.
     pub(crate) limit: u64,
     pub(crate) faults: Faults,
 }
@@ -167,7 +167,8 @@ impl Image for DiskFile {
 
     fn read_at(&mut self, at: u64, into: &mut [u8]) -> Result<(), Failed>
         ensures seen { seen_file self.new ≡ seen_file self.old }
-        ensures counted { self.new.faults ≡ record self.old.faults { reads = count_after self.old.faults.reads result } }
+        ensures counted { self.new.faults
+            ≡ record self.old.faults { reads = count_after self.old.faults.reads result } }
         ensures access { self.new.access ≡ self.old.access }
     {
         counted(&mut self.faults.reads, self.file.read_exact_at(into, at))
@@ -175,9 +176,11 @@ impl Image for DiskFile {
 
     fn write_at(&mut self, at: u64, bytes: &[u8]) -> Result<(), Failed>
         ensures may { OnOk result (MayWrite self.old at (length bytes.now)) }
-        ensures wrote { Wrote (record { place = at; bytes = bytes.now } ∷ []) (seen_file self.old) result (seen_file self.new) }
+        ensures wrote { Wrote (record { place = at; bytes = bytes.now } ∷ [])
+            (seen_file self.old) result (seen_file self.new) }
         ensures seen { seen_file self.new ≡ seen_file self.old }
-        ensures counted { self.new.faults ≡ record self.old.faults { writes = count_after self.old.faults.writes result } }
+        ensures counted { self.new.faults
+            ≡ record self.old.faults { writes = count_after self.old.faults.writes result } }
         ensures access { self.new.access ≡ self.old.access }
     {
         let written = self.write_whole(at, bytes);
@@ -186,7 +189,8 @@ impl Image for DiskFile {
 
     fn sync(&mut self) -> Result<(), Failed>
         ensures seen { seen_file self.new ≡ seen_file self.old }
-        ensures counted { self.new.faults ≡ record self.old.faults { writes = count_after self.old.faults.writes result } }
+        ensures counted { self.new.faults
+            ≡ record self.old.faults { writes = count_after self.old.faults.writes result } }
         ensures access { self.new.access ≡ self.old.access }
     {
         counted(&mut self.faults.writes, self.file.sync_data())
@@ -205,7 +209,8 @@ impl HostFile for DiskFile {
         ensures set { SetLength len (seen_file self.old) result (seen_file self.new) }
         ensures same { OnErr result (seen_file self.new ≡ seen_file self.old) }
         ensures failed { IfErr result (λ fault. fault ≡ PutFault.Failed) }
-        ensures counted { self.new.faults ≡ record self.old.faults { writes = count_after self.old.faults.writes result } }
+        ensures counted { self.new.faults
+            ≡ record self.old.faults { writes = count_after self.old.faults.writes result } }
         ensures access { self.new.access ≡ self.old.access }
     {
         let answer = self.change_length(len);
@@ -223,7 +228,8 @@ impl HostFile for DiskFile {
         ensures may { OnOk result (MayWrite self.old self.old.size (length bytes.now)) }
         ensures appended { Appended bytes.now (seen_file self.old) result (seen_file self.new) }
         ensures failed { IfErr result (λ fault. fault ≡ PutFault.Failed) }
-        ensures counted { self.new.faults ≡ record self.old.faults { writes = count_after self.old.faults.writes result } }
+        ensures counted { self.new.faults
+            ≡ record self.old.faults { writes = count_after self.old.faults.writes result } }
         ensures access { self.new.access ≡ self.old.access }
     {
         let (end, answer) = self.write_behind(bytes);

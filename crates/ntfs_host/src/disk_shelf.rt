@@ -10,8 +10,8 @@ use std::io;
 use std::io::ErrorKind;
 use std::os::unix::fs::FileTypeExt;
 
-/// The files of the system, by their paths. Where they are only read, it opens each for reading alone and makes none. Else it
-/// opens each for reading and writing and, where that is refused, for reading alone; writes to such a file fail.
+/// The files of the system, by their paths. Where they are only read, it opens each for reading alone and makes none.
+/// Else it opens each for reading and writing or, where that is refused, for reading alone; then writes to it fail.
 #[derive(Drop)]
 pub struct DiskShelf<R> {
     pub(crate) files: R,
@@ -44,8 +44,8 @@ impl<R> DiskShelf<R> {
     }
 }
 
-/// Opens a file, and tells what may be done with it. What is neither a file nor a block device isn't opened: a pipe would wait
-/// for a writer, and a device may act.
+/// Opens a file, and tells what may be done with it. What is neither a file nor a block device isn't opened: a pipe
+/// would wait for a writer, and a device may act.
 fn open<R: Files<File = File>>(
     files: &R,
     access: Access,
@@ -80,8 +80,8 @@ fn open_as<R: Files<File = File>>(
     Ok((file, Access::ReadOnly))
 }
 
-/// Makes an empty file. One that is there is emptied, unless the file must be new; what can't be emptied, as a device, is
-/// refused.
+/// Makes an empty file. One that is there is emptied, unless the file must be new; what can't be emptied, as a device,
+/// is refused.
 fn make<R: Files<File = File>>(
     files: &R,
     name: &str,
@@ -142,7 +142,8 @@ impl<R: Files<File = File>> Shelf for DiskShelf<R> {
         ensures only_read { self.old.access ≡ Access.ReadOnly → result ≡ Err ShelfFault.Failed }
         ensures writable { IfOk result (λ file. file.access ≡ Access.ReadWrite) }
         ensures access { self.new.access ≡ self.old.access }
-        ensures file { IfOk result (λ file. IsCreated (seen_shelf self.old) name.now must_be_new (seen_file file) file.faults) }
+        ensures file { IfOk result (λ file.
+            IsCreated (seen_shelf self.old) name.now must_be_new (seen_file file) file.faults) }
         ensures created { OnOk result (seen_shelf self.new ≡ after_create name.now (seen_shelf self.old)) }
         ensures refused { OnErr result (seen_shelf self.new ≡ seen_shelf self.old) }
         ensures counted { IfErr result (λ fault. self.new.faults ≡ faults_after_create fault self.old.faults) }

@@ -1,6 +1,6 @@
 ghost use Rattle.std.specs.Prelude.{◌≡◌, ◌↔◌, ◌≤◌, ◌+◌, true, [], length, IsTrue, OnOk};
 ghost use Rattle.std.specs.Io.KnownBytes.{Appends};
-ghost use Rattle.ntfs_host.specs.Waiting.{EndsLine, messages_contents};
+ghost use Rattle.ntfs_host.specs.Waiting.{EndsLine, gathered};
 
 use crate::counting::counted;
 use arrayvec::ArrayVec;
@@ -11,8 +11,8 @@ use std::io::{Stderr, Write};
 /// How many bytes of a line may wait: more than any message line has.
 pub(crate) const ROOM: usize = 8192;
 
-/// Standard error, where each line is written at once: what is put waits in a buffer of 8,192 bytes until a put ends with a
-/// line feed, the buffer is full, or it is flushed. It takes no memory. Nothing is written when it is dropped.
+/// Standard error, where each line is written at once: what is put waits in a buffer of 8,192 bytes until a put ends
+/// with a line feed, the buffer is full, or it is flushed. It takes no memory. Nothing is written when it is dropped.
 #[derive(Drop)]
 pub struct StdMessages<W = Stderr> {
     pub(crate) writer: W,
@@ -63,8 +63,10 @@ fn gather<W: Write>(
     waiting: &mut ArrayVec<u8, ROOM>,
     bytes: &[u8],
 ) -> io::Result<()>
-    ensures appends { OnOk result (Appends (messages_contents W.contents writer.old waiting.old) (messages_contents W.contents writer.new waiting.new) bytes.now) }
-    ensures gathers { length waiting.old.items + length bytes.now ≤ ROOM → (EndsLine bytes.now → ⊥) → writer.new ≡ writer.old }
+    ensures appends { OnOk result (Appends (gathered (W.contents writer.old) waiting.old)
+        (gathered (W.contents writer.new) waiting.new) bytes.now) }
+    ensures gathers { length waiting.old.items + length bytes.now ≤ ROOM → (EndsLine bytes.now → ⊥)
+        → writer.new ≡ writer.old }
     ensures lines { EndsLine bytes.now → waiting.new.items ≡ [] }
 {
     if waiting.try_extend_from_slice(bytes).is_err() {
@@ -85,7 +87,7 @@ impl<W: Write> Sink for StdMessages<W> {
     ghost use Rattle.ntfs_base.specs.Calls.{count_after};
     ghost use Rattle.ntfs_base.specs.Sink.{Put};
     ghost use Rattle.ntfs_host.specs.Seen.{seen_output};
-    ghost use Rattle.ntfs_host.specs.Waiting.{EndsLine, messages_contents};
+    ghost use Rattle.ntfs_host.specs.Waiting.{EndsLine, gathered};
 
     ghost seen = { λ _. seen_output };
 
@@ -95,12 +97,15 @@ impl<W: Write> Sink for StdMessages<W> {
 
     fn put(&mut self, bytes: &[u8]) -> Result<(), PutFault>
         ensures put { Put bytes.now seen_output result seen_output }
-        ensures appends { OnOk result (Appends (messages_contents W.contents self.old.writer self.old.waiting) (messages_contents W.contents self.new.writer self.new.waiting) bytes.now) }
-        ensures gathers { length self.old.waiting.items + length bytes.now ≤ ROOM → (EndsLine bytes.now → ⊥) → self.new.writer ≡ self.old.writer }
+        ensures appends { OnOk result (Appends (gathered (W.contents self.old.writer) self.old.waiting)
+            (gathered (W.contents self.new.writer) self.new.waiting) bytes.now) }
+        ensures gathers { length self.old.waiting.items + length bytes.now ≤ ROOM → (EndsLine bytes.now → ⊥)
+            → self.new.writer ≡ self.old.writer }
         ensures lines { EndsLine bytes.now → self.new.waiting.items ≡ [] }
         ensures waits { self.new.is_flushed ≡ false }
         ensures failed { IfErr result (λ fault. fault ≡ PutFault.Failed) }
-        ensures counted { self.new.faults ≡ record self.old.faults { failures = count_after self.old.faults.failures result } }
+        ensures counted { self.new.faults
+            ≡ record self.old.faults { failures = count_after self.old.faults.failures result } }
     {
         self.is_flushed = false;
         let answer = gather(&mut self.writer, &mut self.waiting, bytes);
@@ -111,11 +116,13 @@ impl<W: Write> Sink for StdMessages<W> {
     }
 
     fn flush(&mut self) -> Result<(), Failed>
-        ensures keeps { OnOk result (Keeps (messages_contents W.contents self.old.writer self.old.waiting) (messages_contents W.contents self.new.writer self.new.waiting)) }
+        ensures keeps { OnOk result (Keeps (gathered (W.contents self.old.writer) self.old.waiting)
+            (gathered (W.contents self.new.writer) self.new.waiting)) }
         ensures written { self.new.waiting.items ≡ [] }
         ensures flushed { OnOk result (self.new.is_flushed ≡ true) }
         ensures failed { OnErr result (self.new.is_flushed ≡ self.old.is_flushed) }
-        ensures counted { self.new.faults ≡ record self.old.faults { failures = count_after self.old.faults.failures result } }
+        ensures counted { self.new.faults
+            ≡ record self.old.faults { failures = count_after self.old.faults.failures result } }
     {
         if self.is_flushed {
             return Ok(());

@@ -9,8 +9,8 @@ use std::io::{BufWriter, Stdout, Write};
 /// How many bytes of output may wait.
 const ROOM: usize = 65_536;
 
-/// Standard output, which is written in large pieces: puts wait in a buffer of 65,536 bytes until it is full or flushed.
-/// Nothing is written when it is dropped.
+/// Standard output, which is written in large pieces: puts wait in a buffer of 65,536 bytes until it is full or
+/// flushed. Nothing is written when it is dropped.
 pub struct StdOutput<W: Write + Drop = Stdout> {
     pub(crate) writer: BufWriter<W>,
     pub is_flushed: bool,
@@ -54,10 +54,12 @@ impl<W: Write + Drop> Sink for StdOutput<W> {
 
     fn put(&mut self, bytes: &[u8]) -> Result<(), PutFault>
         ensures put { Put bytes.now seen_output result seen_output }
-        ensures appends { OnOk result (Appends (writer_contents W.contents self.old.writer) (writer_contents W.contents self.new.writer) bytes.now) }
+        ensures appends { OnOk result (Appends (writer_contents W.contents self.old.writer)
+            (writer_contents W.contents self.new.writer) bytes.now) }
         ensures waits { self.new.is_flushed ≡ false }
         ensures failed { IfErr result (λ fault. fault ≡ PutFault.Failed) }
-        ensures counted { self.new.faults ≡ record self.old.faults { failures = count_after self.old.faults.failures result } }
+        ensures counted { self.new.faults
+            ≡ record self.old.faults { failures = count_after self.old.faults.failures result } }
     {
         self.is_flushed = false;
         match counted(&mut self.faults.failures, self.writer.write_all(bytes)) {
@@ -67,10 +69,12 @@ impl<W: Write + Drop> Sink for StdOutput<W> {
     }
 
     fn flush(&mut self) -> Result<(), Failed>
-        ensures keeps { Keeps (writer_contents W.contents self.old.writer) (writer_contents W.contents self.new.writer) }
+        ensures keeps { Keeps (writer_contents W.contents self.old.writer)
+            (writer_contents W.contents self.new.writer) }
         ensures flushed { OnOk result (self.new.is_flushed ≡ true) }
         ensures failed { OnErr result (self.new.is_flushed ≡ self.old.is_flushed) }
-        ensures counted { self.new.faults ≡ record self.old.faults { failures = count_after self.old.faults.failures result } }
+        ensures counted { self.new.faults
+            ≡ record self.old.faults { failures = count_after self.old.faults.failures result } }
     {
         if self.is_flushed {
             return Ok(());

@@ -2,8 +2,8 @@ use ntfs_base::Failed;
 use std::fs::{File, Files};
 use std::os::fd::AsFd;
 
-/// Files in the place of those standard streams that were closed when the program began. While they are held, no other file
-/// has the descriptor of a standard stream, so that what is written to a closed stream reaches no file.
+/// Files in the place of those standard streams that were closed when the program began. While they are held, no other
+/// file has the descriptor of a standard stream, so that what is written to a closed stream reaches no file.
 #[derive(Drop)]
 pub struct StandIns<F> {
     pub(crate) input: Option<F>,
@@ -12,8 +12,8 @@ pub struct StandIns<F> {
 }
 
 impl<F> StandIns<F> {
-    /// Opens a file for each of the three streams that is closed, or fails where the system refuses that. A file that is
-    /// opened takes the lowest descriptor that is free, so this comes before any other file is opened.
+    /// Opens a file for each of the three streams that is closed, or fails where the system refuses that. A file that
+    /// is opened takes the lowest descriptor that is free, so this comes before any other file is opened.
     pub fn open<R: Files<File = F>, I: AsFd, O: AsFd, E: AsFd>(
         files: &R,
         input: &I,
@@ -45,8 +45,8 @@ fn stand_in<R: Files, S: AsFd>(files: &R, stream: &S) -> Result<Option<R::File>,
     }
 }
 
-/// Whether the system knows no open file under the descriptor. One more descriptor of an open file may be refused too, for
-/// another reason.
+/// Whether the system knows no open file under the descriptor. One more descriptor of an open file may be refused too,
+/// for another reason.
 fn is_closed<S: AsFd>(stream: &S) -> bool {
     match stream.as_fd().try_clone_to_owned() {
         Ok(_) => false,

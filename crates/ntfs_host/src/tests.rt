@@ -374,8 +374,9 @@ fn a_stream_that_fails_is_counted(rt: HostRuntime) -> Result<(), Fail> {
     Ok(())
 }
 
-/// Attaches and makes a file of three bytes, and makes an output: whether all was done. Where it wasn't, memory was wanting, no
-/// name stays attached and no fault is counted. `tools/refused_memory.py` has each allocation of it refused in turn.
+/// Attaches and makes a file of three bytes, and makes an output: whether all was done. Where it wasn't, memory was
+/// wanting, no name stays attached and no fault is counted. `tools/refused_memory.py` has each allocation of it refused
+/// in turn.
 fn files_are_whole(rt: &impl Abort, host: &HostRuntime) -> Result<bool, Fail> {
     let name = "host_poor.img";
     if fs::write(host, name, b"abc".as_slice()).is_err() {

@@ -47,8 +47,8 @@ pub fn arguments<E: Env>(alloc: Global, env: &E) -> Result<Vec<String>, Argument
     Ok(words)
 }
 
-/// The word of a number, of which the program's own name has 0, where there is one. It is read into the room, which grows
-/// where the word is longer.
+/// The word of a number, of which the program's own name has 0, where there is one. It is read into the room, which
+/// grows where the word is longer.
 fn argument<E: Env>(
     alloc: Global,
     env: &E,
@@ -108,8 +108,8 @@ mod tests {
         }
     }
 
-    /// Takes words of many lengths: whether all were taken. Where they weren't, memory was wanting. `tools/refused_memory.py`
-    /// has each allocation of it refused in turn.
+    /// Takes words of many lengths: whether all were taken. Where they weren't, memory was wanting.
+    /// `tools/refused_memory.py` has each allocation of it refused in turn.
     fn words_are_whole(rt: &impl Abort, host: &HostRuntime) -> Result<bool, Fail> {
         let long = [b'a'; 9000];
         let given: [&[u8]; 8] = [

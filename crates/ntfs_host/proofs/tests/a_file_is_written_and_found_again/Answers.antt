@@ -7,5 +7,8 @@ use Rattle.ntfs_host.proofs.tests.a_file_is_written_and_found_again.Goals as goa
 
 pub release-requires : goal.release-requires
 release-requires c c' =
-    ap (λ (shelf : ShelfState). has_name (string_bytes c'.sync_any.new.image.name) shelf.attached) c'.in_ok-file.ensures.attached
-    ∙ has_name-attached _ _ (seen_file c'.sync_any.new.image) (ap (λ (image : ImageState). image.name) c'.sync_any.ensures ∙ ap (λ (image : ImageState). image.name) c'.write_at.ensures.seen ∙ c'.in_ok-file.ensures.file.bears)
+    let attached = λ (shelf : ShelfState). has_name (string_bytes c'.sync_any.new.image.name) shelf.attached in
+    let name = λ (image : ImageState). image.name in
+    ap attached c'.in_ok-file.ensures.attached
+    ∙ has_name-attached _ _ (seen_file c'.sync_any.new.image)
+        (ap name c'.sync_any.ensures ∙ ap name c'.write_at.ensures.seen ∙ c'.in_ok-file.ensures.file.bears)

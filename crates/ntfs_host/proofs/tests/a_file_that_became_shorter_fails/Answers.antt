@@ -7,5 +7,8 @@ use Rattle.ntfs_host.proofs.tests.a_file_that_became_shorter_fails.Goals as goal
 
 pub release-requires : goal.release-requires
 release-requires c c' =
-    ap (λ (shelf : ShelfState). has_name (string_bytes c'.read_at.new.self.name) shelf.attached) c'.in_ok-file.ensures.attached
-    ∙ has_name-attached _ _ (seen_file c'.read_at.new.self) (ap (λ (image : ImageState). image.name) c'.read_at.ensures.seen ∙ c'.in_ok-file.ensures.file.bears)
+    let attached = λ (shelf : ShelfState). has_name (string_bytes c'.read_at.new.self.name) shelf.attached in
+    let name = λ (image : ImageState). image.name in
+    ap attached c'.in_ok-file.ensures.attached
+    ∙ has_name-attached _ _ (seen_file c'.read_at.new.self)
+        (ap name c'.read_at.ensures.seen ∙ c'.in_ok-file.ensures.file.bears)
