@@ -2,6 +2,7 @@ ghost use Rattle.std.specs.Prelude.{◌≡◌, false};
 ghost use Rattle.ntfs_base.specs.Shelf.{has_name};
 
 use crate::disk_file::{Extent, write_from};
+use crate::limits::limit_in;
 use crate::{Access, DiskFile, DiskShelf, StandIns, StdInput, StdMessages, StdOutput};
 use ntfs_base::{
     Failed, FileSink, FileSource, HostFile, Image, PutFault, Shelf, ShelfFault, Sink, Source,
@@ -469,6 +470,32 @@ fn a_sync_is_asked_of_the_system(rt: HostRuntime) -> Result<(), Fail> {
     assert_eq!(rt; file.sync(), Err(Failed));
     assert_eq!(rt; file.faults.writes, 1);
     Ok(())
+}
+
+#[test]
+fn the_limit_on_sizes_is_read(rt: HostRuntime) {
+    // As Linux prints it: the name of a limit, the soft one, the hard one, and their unit.
+    let head = "Limit                     Soft Limit           Hard Limit           Units\n";
+    let lines = [
+        (
+            "Max file size             2048                 unlimited            bytes\n",
+            2048,
+        ),
+        (
+            "Max cpu time              1                    unlimited            seconds\n",
+            u64::MAX,
+        ),
+        (
+            "Max file size             unlimited            unlimited            bytes\n",
+            u64::MAX,
+        ),
+        ("Max file size\n", u64::MAX),
+    ];
+    for (line, limit) in lines {
+        assert_eq!(rt; limit_in(line.as_bytes()), limit);
+    }
+    assert_eq!(rt; limit_in(head.as_bytes()), u64::MAX);
+    assert_eq!(rt; limit_in(&[0xFF]), u64::MAX);
 }
 
 #[test]

@@ -11,4 +11,4 @@ release-requires c c' =
     let name = λ (image : ImageState). image.name in
     ap attached c'.in_ok-file.ensures.attached
     ∙ has_name-attached _ _ (seen_file c'.sync_any.new.image)
-        (ap name c'.sync_any.ensures ∙ ap name c'.write_at.ensures.seen ∙ c'.in_ok-file.ensures.file.bears)
+    (ap name c'.sync_any.ensures ∙ ap name c'.write_at.ensures.seen ∙ c'.in_ok-file.ensures.file.bears)

@@ -11,4 +11,4 @@ release-requires c c' =
     let name = λ (image : ImageState). image.name in
     ap attached c'.in_ok-file.ensures.attached
     ∙ has_name-attached _ _ (seen_file c'.read_at.new.self)
-        (ap name c'.read_at.ensures.seen ∙ c'.in_ok-file.ensures.file.bears)
+    (ap name c'.read_at.ensures.seen ∙ c'.in_ok-file.ensures.file.bears)

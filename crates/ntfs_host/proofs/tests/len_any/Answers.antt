@@ -7,4 +7,4 @@ pub release-requires : goal.release-requires
 release-requires g c =
     ap (λ shelf. has_name (g.S.File.Image.seen c.in_ok-file.file).name shelf.attached) c.in_ok-file.ensures.attached
     ∙ has_name-attached c.args.name.now (g.S.Shelf.seen c.args.shelf.now)
-        (g.S.File.Image.seen c.in_ok-file.file) c.in_ok-file.ensures.file.bears
+    (g.S.File.Image.seen c.in_ok-file.file) c.in_ok-file.ensures.file.bears

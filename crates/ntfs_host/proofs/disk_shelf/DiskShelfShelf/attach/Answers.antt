@@ -6,4 +6,4 @@ pub returns-in-Ok-clause-attached : goal.returns-in-Ok-clause-attached
 returns-in-Ok-clause-attached g c =
     let names : c.insert.new.self.items ≡ c.in_ok-text.text ∷ c.args.self.now.attached.items = search rules in
     attached_untold _ _ _ (ap (map string_bytes) names
-        ∙ ap (λ name. name ∷ map string_bytes c.args.self.now.attached.items) c.in_ok-text.ensures.ok)
+    ∙ ap (λ name. name ∷ map string_bytes c.args.self.now.attached.items) c.in_ok-text.ensures.ok)

@@ -6,4 +6,4 @@ use Rattle.ntfs_host.proofs.disk_shelf.DiskShelfShelf.release.Goals as goal
 pub returns-clause-released : goal.returns-clause-released
 returns-clause-released g c =
     released_untold _ _ _ (c.remove_name.ensures
-        ∙ ap (λ name. without name (map string_bytes c.args.self.now.attached.items)) c.as_str.ensures.value)
+    ∙ ap (λ name. without name (map string_bytes c.args.self.now.attached.items)) c.as_str.ensures.value)
