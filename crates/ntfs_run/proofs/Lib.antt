@@ -1,5 +1,8 @@
 pub mod MessageLemmas
-pub mod OutcomeLemmas
 pub mod NumberLemmas
-pub mod CatLemmas
+pub mod RangeLemmas
+pub mod ToolLemmas
 pub mod MakeLemmas
+pub mod InfoLemmas
+pub mod CatLemmas
+pub mod ReplyLemmas

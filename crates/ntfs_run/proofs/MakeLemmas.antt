@@ -1,8 +1,7 @@
--- A volume that is made in a new file: its words, its length, and what is left of it.
-use Rattle.std.proofs.Common.{◌≡◌, ◌<◌, ◌+◌, ◌-◌, ◌*◌, ◌&&◌, ◌==◌, ℕ, Bool, true, false, cond, IsTrue, List, [], ◌∷◌, ◌++◌, length, take, replicate, refl, sym, ap, subst, ◌∙◌, inl, inr, arith, Err, Option, Some, None, nat_le, if◌then◌else◌}
+-- A volume that is made in a new file: its length, what is left of it, and the shelf afterwards.
+use Rattle.std.proofs.Common.{◌≡◌, ◌<◌, ◌+◌, ◌-◌, ◌*◌, ℕ, Bool, true, false, cond, IsTrue, List, [], ◌∷◌, ◌++◌}
+use Rattle.std.proofs.Common.{length, take, replicate, refl, sym, ap, subst, ◌∙◌, inl, inr, arith, Result, Ok, Err, Option, Some, IfErr, OnOk, is_none, if◌then◌else◌}
 use Rattle.std.proofs.Math.Seq.{take-nil}
-use Rattle.std.proofs.lemmas.Bool.{leb-true, le-leb}
-use Rattle.std.proofs.lemmas.Bool.Decides.{nat_tests}
 use Rattle.std.proofs.lemmas.Cmp.{nat_list_cmp_total}
 use Rattle.std.proofs.lemmas.List.{get_or-replicate, length-replicate}
 use Rattle.std.proofs.lemmas.List.FromFn.{length-map-range_with_len}
@@ -10,68 +9,28 @@ use Rattle.std.specs.FinMap.{get, insert, get-insert, same_map, slice_cmp-IsAnti
 use Rattle.ntfs_base.specs.Growth.{SetLength, after_set_len, resized}
 use Rattle.ntfs_base.specs.Image.{ImageState}
 use Rattle.ntfs_base.specs.Shelf.{Files, ShelfState, after_create, after_release, file_of, without}
+use Rattle.ntfs_base.specs.Writes.{byte_from}
 use Rattle.ntfs_base.proofs.ShelfLemmas.{name_same}
 use Rattle.ntfs_make.specs.Left.{IsZeroOrMade}
-use Rattle.ntfs_base.specs.Writes.{byte_from}
-use Rattle.ntfs_make.specs.Made.{made, made_writes}
-use Rattle.ntfs_make.specs.Shape.{IsShape, is_cluster_size, shape_of}
-use Rattle.ntfs_run.specs.Make.{IsMakeStatus, IsPart, is_in_range, make_file_outcome, make_line_outcome, new_files, new_outcome, told_volume, volume_bytes, volume_of, volume_outcome, with_cluster}
-use Rattle.ntfs_base.specs.Sink.{SinkState}
-use Rattle.ntfs_base.specs.declared.refusal.UsageKind.TheVariants as usage
-use Rattle.ntfs_run.specs.Numbers.{number_of}
-use Rattle.ntfs_run.specs.Words.{make_file, word_at}
-use Rattle.ntfs_run.proofs.OutcomeLemmas.{answers_refused}
-use Rattle.ntfs_run.specs.Cat.{IfDone}
-use Rattle.ntfs_run.specs.Outcome.{Answers, IsSettled}
+use Rattle.ntfs_make.specs.Volume.{volume_bytes_of, volume_writes}
+use Rattle.std.proofs.lemmas.Result.{IfErr-weaker}
+use Rattle.ntfs_base.specs.Causes.{HaveNotFallen}
+use Rattle.ntfs_base.specs.Frames.{IsSettled, OnlyWrites, SinkHasNotFallen, must, ◌>>=◌}
+use Rattle.ntfs_base.specs.Shelf.{IsCreated, added_count, has_name}
+use Rattle.ntfs_base.specs.Sink.{SinkState, after_put}
+use Rattle.ntfs_base.specs.declared.image.Image as image
+use Rattle.ntfs_base.specs.declared.refusal.Named.TheVariants as named
+use Rattle.ntfs_base.specs.declared.shelf.Shelf as shelf
+use Rattle.ntfs_base.specs.declared.sink.Sink as sink
+use Rattle.ntfs_base.proofs.AttachLemmas.{has_name-created}
+use Rattle.ntfs_base.proofs.SinkLemmas.{after_put-nil}
+use Rattle.ntfs_run.specs.Make.{FillRefuses, IsPart, MakeRefuses, make_work}
+use Rattle.ntfs_run.specs.Outcome.{Does, MayWriteFiles, outcome_of, refused_with, status_of, status_origin}
 use Rattle.ntfs_run.specs.declared.status.Status.{Status}
 use Rattle.ntfs_run.specs.declared.status.Status.TheVariants as status
-use Rattle.ntfs_run.specs.declared.make.Volume.{Volume}
+use Rattle.ntfs_run.proofs.ToolLemmas.{because_map, rose_released}
 
--- ---- the ranges
-
-both : (a b : Bool) → (a && b) ≡ true → (a ≡ true) × (b ≡ true)
-both true b is = (refl, is)
-both false b is = absurd cc
-
-pub range-shape : (seed clusters cluster : ℕ) → is_in_range clusters cluster ≡ true → IsShape (shape_of seed clusters cluster)
-unfolding is_in_range
-range-shape seed clusters cluster is =
-    let first = both (is_cluster_size cluster) (nat_le (if cluster == 512 then 2048 else 1024) clusters && nat_le clusters 1048576) is in
-    let second = both (nat_le (if cluster == 512 then 2048 else 1024) clusters) (nat_le clusters 1048576) first.1 in
-    record { cluster = first.0; least = leb-true _ _ second.0; most = leb-true _ _ second.1 }
-
-pub shape-range : (seed clusters cluster : ℕ) → IsShape (shape_of seed clusters cluster) → is_in_range clusters cluster ≡ true
-unfolding is_in_range
-shape-range seed clusters cluster is =
-    ap (λ b. b && (nat_le (if cluster == 512 then 2048 else 1024) clusters && nat_le clusters 1048576)) is.cluster
-    ∙ ap (λ b. b && nat_le clusters 1048576) (le-leb _ _ is.least) ∙ le-leb _ _ is.most
-
-out-by : (b : Bool) → (b ≡ true → ⊥) → b ≡ false
-out-by true wrong = absurd (wrong refl)
-out-by false wrong = refl
-
-pub no-shape-out : (clusters cluster : ℕ) → (IsShape (shape_of 0 clusters cluster) → ⊥) → is_in_range clusters cluster ≡ false
-no-shape-out clusters cluster wrong = out-by (is_in_range clusters cluster) (λ is. wrong (range-shape 0 clusters cluster is))
-
-pub too-many-out : (clusters cluster : ℕ) → 1048576 < clusters → is_in_range clusters cluster ≡ false
-too-many-out clusters cluster many = no-shape-out clusters cluster (λ is. absurd (omega (arith, is.most, many)))
-
-large-size : (cluster : ℕ) → 65536 < cluster → is_cluster_size cluster ≡ false
-unfolding is_cluster_size
-large-size cluster large = grind (arith, nat_tests)
-
-pub too-large-out : (clusters cluster : ℕ) → 65536 < cluster → is_in_range clusters cluster ≡ false
-unfolding is_in_range
-too-large-out clusters cluster large = ap (λ b. b && (nat_le (if cluster == 512 then 2048 else 1024) clusters && nat_le clusters 1048576)) (large-size cluster large)
-
-pub out-none : (seed clusters cluster : ℕ) → is_in_range clusters cluster ≡ false → None ≡ with_cluster seed clusters (Some cluster)
-out-none seed clusters cluster out = sym (ap (λ b. if b then Some (record { seed = seed; clusters = clusters; cluster = cluster }) else None) out)
-
-pub in-some : (seed clusters cluster : ℕ) → is_in_range clusters cluster ≡ true
-    → Some (record { seed = seed; clusters = clusters; cluster = cluster }) ≡ with_cluster seed clusters (Some cluster)
-in-some seed clusters cluster is = sym (ap (λ b. if b then Some (record { seed = seed; clusters = clusters; cluster = cluster }) else None) is)
-
--- ---- the file
+-- ---- an empty file at the volume's length
 
 sized : (told : Bool) (len : ℕ) (content : List ℕ) → IsTrue told → content ≡ [] → cond told (take len content ++ replicate (len - length content) 0) content ≡ replicate len 0
 sized true len content is empty =
@@ -96,10 +55,10 @@ zeros-left seed clusters cluster =
       bytes = λ i short. inl (get_or-replicate size i 0 0 (subst (λ n. i < n) (length-replicate size 0) short));
     }
 
-pub made-left : (seed clusters cluster : ℕ) → IsZeroOrMade seed clusters cluster (made seed clusters cluster)
-unfolding made
+pub made-left : (seed clusters cluster : ℕ) → IsZeroOrMade seed clusters cluster (volume_bytes_of seed clusters cluster)
+unfolding volume_bytes_of
 made-left seed clusters cluster = record {
-  len = length-map-range_with_len (λ place. byte_from (made_writes seed clusters cluster) place 0) 0 ((clusters + 1) * cluster);
+  len = length-map-range_with_len (λ place. byte_from (volume_writes seed clusters cluster) place 0) 0 ((clusters + 1) * cluster);
   bytes = λ i short. inr refl;
 }
 
@@ -113,16 +72,16 @@ pub set-zeros : (len : ℕ) (old new : ImageState) → new ≡ after_set_len len
 set-zeros len old new is empty told = ap (λ file. file.content) is ∙ sized-content len old told (empty told)
 
 -- a length that may not have been set
-pub set-left : {T E : Type 0} (volume : Volume) (len : ℕ) (fault : E) (old new : ImageState) → len ≡ (volume.clusters + 1) * volume.cluster → SetLength {T = T} len old (Err fault) new
-    → (IsTrue old.is_told → old.content ≡ []) → IsTrue old.is_told → IsPart volume new.content
-set-left volume len fault old new size is empty told = elim is.part [
+pub set-left : {T E : Type 0} (seed clusters cluster len : ℕ) (fault : E) (old new : ImageState) → len ≡ (clusters + 1) * cluster → SetLength {T = T} len old (Err fault) new
+    → (IsTrue old.is_told → old.content ≡ []) → IsTrue old.is_told → IsPart seed clusters cluster new.content
+set-left seed clusters cluster len fault old new size is empty told = elim is.part [
   | inl same ↦ inl (ap (λ file. file.content) same ∙ empty told)
-  | inr asked ↦ inr (subst (IsZeroOrMade volume.seed volume.clusters volume.cluster)
-      (sym (set-zeros len old new asked empty told ∙ ap (λ n. replicate n 0) size)) (zeros-left volume.seed volume.clusters volume.cluster))
+  | inr asked ↦ inr (subst (IsZeroOrMade seed clusters cluster)
+      (sym (set-zeros len old new asked empty told ∙ ap (λ n. replicate n 0) size)) (zeros-left seed clusters cluster))
 ]
 
-pub made-part : (volume : Volume) (content : List ℕ) → content ≡ made volume.seed volume.clusters volume.cluster → IsPart volume content
-made-part volume content is = inr (subst (IsZeroOrMade volume.seed volume.clusters volume.cluster) (sym is) (made-left volume.seed volume.clusters volume.cluster))
+pub made-part : (seed clusters cluster : ℕ) (content : List ℕ) → content ≡ volume_bytes_of seed clusters cluster → IsPart seed clusters cluster content
+made-part seed clusters cluster content is = inr (subst (IsZeroOrMade seed clusters cluster) (sym is) (made-left seed clusters cluster))
 
 -- ---- the shelf
 
@@ -154,48 +113,99 @@ pub created-attached : (name : List ℕ) (shelf : ShelfState) (file : ImageState
 unfolding after_release after_create
 created-attached name shelf file named = ap (λ b. if b then shelf.attached else name ∷ without file.name shelf.attached) (name_same file.name name named)
 
--- where the work wasn't cut off, the volume stands in the new file
-pub done-files : (old : Files) (name : List ℕ) (volume : Volume) (s : Status) (content : List ℕ) (new : Files) → new ≡ insert old name content → IsMakeStatus s → IsSettled s
-    → IfDone s (content ≡ volume_bytes volume) → file_of old name ≡ None → new ≡ new_files old name volume (file_of old name)
-done-files old name volume status.Done content new is made settled done none =
-    is ∙ ap (insert old name) done ∙ sym (ap (new_files old name volume) none)
-done-files old name volume status.WriteFault content new is made settled done none = absurd settled
-done-files old name volume status.NoMemory content new is made settled done none = absurd settled
-done-files old name volume (status.Usage v0) content new is made settled done none = absurd made
-done-files old name volume (status.Absent v0) content new is made settled done none = absurd made
-done-files old name volume (status.Present v0) content new is made settled done none = absurd made
-done-files old name volume status.NotNtfs content new is made settled done none = absurd made
-done-files old name volume (status.BadGeometry v0 v1) content new is made settled done none = absurd made
-done-files old name volume (status.ImageShort v0 v1) content new is made settled done none = absurd made
-done-files old name volume (status.Damaged v0 v1) content new is made settled done none = absurd made
-done-files old name volume status.Dirty content new is made settled done none = absurd made
-done-files old name volume (status.ShortClusters v0 v1) content new is made settled done none = absurd made
-done-files old name volume (status.ShortRun v0 v1) content new is made settled done none = absurd made
-done-files old name volume (status.ShortRoom v0 v1 v2) content new is made settled done none = absurd made
-done-files old name volume (status.ShortGeometry v0 v1 v2) content new is made settled done none = absurd made
-done-files old name volume (status.NotFound v0) content new is made settled done none = absurd made
-done-files old name volume (status.NotPlain v0) content new is made settled done none = absurd made
-done-files old name volume (status.Guarded v0 v1) content new is made settled done none = absurd made
-done-files old name volume (status.TooLong v0 v1) content new is made settled done none = absurd made
-done-files old name volume (status.BadClone v0) content new is made settled done none = absurd made
-done-files old name volume status.ReadFault content new is made settled done none = absurd made
-done-files old name volume (status.CannotMend v0 v1) content new is made settled done none = absurd made
+-- ---- the tool
 
--- ---- the words
+-- the file's name is attached until it is released
+pub filled_is_attached : {S F : Type 0} (s : shelf.Ghosts S F) (f : image.Ghosts F) (old held : S) (file filled : F) (name : List ℕ)
+    → IsCreated (s.seen old) name true (f.seen file) (f.faults file) → s.seen held ≡ after_create name (s.seen old)
+    → (f.seen filled).name ≡ (f.seen file).name → has_name (f.seen filled).name (s.seen held).attached ≡ true
+filled_is_attached s f old held file filled name out created named =
+    ap (λ shelf. has_name (f.seen filled).name shelf.attached) created ∙ has_name-created name (s.seen old) (f.seen filled) (named ∙ out.bears)
 
-pub told-none : (words : List (List ℕ)) (a b c : List ℕ) → a ≡ word_at 2 words → b ≡ word_at 3 words → c ≡ word_at 4 words
-    → None ≡ volume_of (number_of a) (number_of b) (number_of c) → told_volume words ≡ None
-unfolding told_volume
-told-none words a b c seed clusters cluster none = sym (none ∙ (λ i. volume_of (number_of (seed i)) (number_of (clusters i)) (number_of (cluster i))))
+-- what the shelf is then
+pub released_files : {S F : Type 0} (s : shelf.Ghosts S F) (f : image.Ghosts F) (old held new : S) (file filled : F) (name : List ℕ)
+    → IsCreated (s.seen old) name true (f.seen file) (f.faults file) → s.seen held ≡ after_create name (s.seen old)
+    → (f.seen filled).name ≡ (f.seen file).name → s.seen new ≡ after_release (f.seen filled) (s.seen held) → IsTrue (s.seen old).is_told
+    → (s.seen new).files ≡ insert (s.seen old).files name (f.seen filled).content
+released_files s f old held new file filled name out created named released told =
+    ap (λ shelf. shelf.files) (released ∙ ap (after_release (f.seen filled)) created)
+    ∙ created-files name (s.seen old) (f.seen filled) (named ∙ out.bears) told
 
-pub answers_number : (words : List (List ℕ)) (files : Files) (name : List ℕ) (sink : SinkState) → Some name ≡ make_file words → told_volume words ≡ None
-    → Answers (make_line_outcome words files) (status.Usage usage.Number) sink sink
-unfolding make_line_outcome
-answers_number words files name sink named none =
-    subst (λ o. Answers (make_file_outcome files (told_volume words) o) (status.Usage usage.Number) sink sink) named
-    (subst (λ v. Answers (volume_outcome files name v) (status.Usage usage.Number) sink sink) (sym none) (answers_refused (status.Usage usage.Number) sink))
+released_attached : {S F : Type 0} (s : shelf.Ghosts S F) (f : image.Ghosts F) (old held new : S) (file filled : F) (name : List ℕ)
+    → IsCreated (s.seen old) name true (f.seen file) (f.faults file) → s.seen held ≡ after_create name (s.seen old)
+    → (f.seen filled).name ≡ (f.seen file).name → s.seen new ≡ after_release (f.seen filled) (s.seen held) → (s.seen new).attached ≡ (s.seen old).attached
+released_attached s f old held new file filled name out created named released =
+    ap (λ shelf. shelf.attached) (released ∙ ap (after_release (f.seen filled)) created)
+    ∙ created-attached name (s.seen old) (f.seen filled) (named ∙ out.bears)
 
--- nothing is put whatever the file
-pub new-output : (file : Option (List ℕ)) → (new_outcome file).output ≡ []
-new-output None = refl
-new-output (Some bytes) = refl
+created-told : (name : List ℕ) (file : ImageState) (shelf : ShelfState) → (after_release file (after_create name shelf)).is_told ≡ shelf.is_told
+unfolding after_release after_create
+created-told name file shelf = refl
+
+made_refuses : (fault : Status) → FillRefuses fault → MakeRefuses fault
+made_refuses status.WriteFault is = tt
+made_refuses status.NoMemory is = tt
+made_refuses other is = absurd is
+
+not_settled : (fault : Status) → FillRefuses fault → IsSettled (status_origin fault) → ⊥
+not_settled status.WriteFault is settled = settled
+not_settled status.NoMemory is settled = settled
+not_settled other is settled = is
+
+on_ok : {T E P : Type 0} (result : Result T E) → P → OnOk result P
+on_ok (Ok x) is = is
+on_ok (Err fault) is = tt
+
+pub runs_made : {S F K : Type 0} (s : shelf.Ghosts S F) (f : image.Ghosts F) (k : sink.Ghosts K) (old held new : S) (file filled : F)
+    (before after : K) (name : List ℕ) (result : Result (Unit {0}) Status) → (s.seen old).attached ≡ []
+    → IsCreated (s.seen old) name true (f.seen file) (f.faults file) → s.seen held ≡ after_create name (s.seen old)
+    → HaveNotFallen (s.faults old) (s.faults held) → (f.seen filled).name ≡ (f.seen file).name
+    → OnlyWrites f status_origin file filled result → IfErr result FillRefuses → SinkHasNotFallen (k.faults before) (k.faults after)
+    → k.is_flushed after ≡ true → s.seen new ≡ after_release (f.seen filled) (s.seen held)
+    → (s.faults new).writes ≡ added_count (s.faults held).writes (f.faults filled).writes → HaveNotFallen (s.faults held) (s.faults new)
+    → MayWriteFiles s k MakeRefuses old new before after result
+runs_made s f k old held new file filled before after name result none out created kept named fills refusal puts flushed released writes counts = record {
+  told = ap (λ shelf. shelf.is_told) (released ∙ ap (after_release (f.seen filled)) created) ∙ created-told name (f.seen filled) (s.seen old);
+  detached = released_attached s f old held new file filled name out created named released ∙ none;
+  counts = record { reads = omega (arith, kept.reads, counts.reads); writes = omega (arith, kept.writes, counts.writes) };
+  puts = puts;
+  cause = IfErr-weaker result _ _ (λ fault. because_map (status_origin fault) (λ no. absurd no)
+      (λ rose. inl (rose_released _ (s.faults held).writes _ (f.faults file).writes (f.faults filled).writes kept.writes writes out.writes rose))
+      (λ want. want)) fills.cause;
+  refusal = IfErr-weaker result _ _ made_refuses refusal;
+  flushed = on_ok result flushed;
+}
+
+made_of : (name : List ℕ) (seed clusters cluster : ℕ) (files : Files) → must (is_none (file_of files name)) (status.Present named.Output) ≡ Ok tt
+    → make_work name seed clusters cluster files ≡ Ok (record { output = []; files = insert files name (volume_bytes_of seed clusters cluster) })
+unfolding make_work
+made_of name seed clusters cluster files free =
+    ap (λ r. r >>= (λ free. Ok (record { output = []; files = insert files name (volume_bytes_of seed clusters cluster) }))) free
+
+-- the outcome where the file couldn't be made
+pub work_refused : (name : List ℕ) (seed clusters cluster : ℕ) (files : Files) (fault : Status)
+    → must (is_none (file_of files name)) (status.Present named.Output) ≡ Err fault
+    → outcome_of files (make_work name seed clusters cluster files) ≡ refused_with fault files
+unfolding make_work
+work_refused name seed clusters cluster files fault is =
+    ap (λ r. outcome_of files (r >>= (λ free. Ok (record { output = []; files = insert files name (volume_bytes_of seed clusters cluster) })))) is
+
+-- and where it was
+pub does_made : (name : List ℕ) (seed clusters cluster : ℕ) (old new : Files) (content : List ℕ) (before after : SinkState)
+    (result : Result (Unit {0}) Status) → after ≡ before → must (is_none (file_of old name)) (status.Present named.Output) ≡ Ok tt → new ≡ insert old name content
+    → OnOk result (content ≡ volume_bytes_of seed clusters cluster) → IfErr result FillRefuses
+    → Does (outcome_of old (make_work name seed clusters cluster old)) (status_of result) before after new
+does_made name seed clusters cluster old new content before after (Ok x) same free is done refusal =
+    let work = made_of name seed clusters cluster old free in
+    record {
+      status = λ settled. sym (ap (λ w. (outcome_of old w).status) work);
+      output = λ settled. same ∙ sym (ap (λ w. after_put (outcome_of old w).output before) work ∙ after_put-nil before);
+      files = λ settled. is ∙ ap (insert old name) done ∙ sym (ap (λ w. (outcome_of old w).files) work);
+      prefix = (0, omega arith, same ∙ sym (after_put-nil before));
+    }
+does_made name seed clusters cluster old new content before after (Err fault) same free is done refusal = record {
+  status = λ settled. absurd (not_settled fault refusal settled);
+  output = λ settled. absurd (not_settled fault refusal settled);
+  files = λ settled. absurd (not_settled fault refusal settled);
+  prefix = (0, omega arith, same ∙ sym (after_put-nil before));
+}

@@ -1,36 +1,34 @@
 -- `ntfsinfo -m`: the geometry of an image in nine lines.
-use Rattle.std.specs.Prelude.{ℕ, List, [], Option, Some, None, Result, Ok, Err}
+use Rattle.std.specs.Prelude.{ℕ, List, Result, Ok}
+use Rattle.std.specs.Option.{ok_or}
+use Rattle.ntfs_base.specs.Frames.{refused_as, ◌>>=◌}
 use Rattle.ntfs_base.specs.Shelf.{Files, file_of}
 use Rattle.ntfs_base.specs.declared.refusal.Named.TheVariants as named
-use Rattle.ntfs_base.specs.declared.refusal.UsageKind.TheVariants as usage
 use Rattle.ntfs_boot.specs.Geometry.{volume_geometry}
-use Rattle.ntfs_boot.specs.declared.geometry.Geometry.{Geometry}
-use Rattle.ntfs_boot.specs.declared.volume.ImageFault.{ImageFault}
 use Rattle.ntfs_show.specs.Info.{info_lines}
-use Rattle.ntfs_run.specs.Outcome.{Outcome, image_status}
-use Rattle.ntfs_run.specs.Words.{info_image}
+use Rattle.ntfs_run.specs.Outcome.{image_status}
 use Rattle.ntfs_run.specs.declared.status.Status.{Status}
 use Rattle.ntfs_run.specs.declared.status.Status.TheVariants as status
 
--- nothing is put
-abbrev pub refused : Status → Outcome
-refused status = record { status = status; output = [] }
+-- the lines for an image
+abbrev pub image_lines : List ℕ → Result (List ℕ) Status
+image_lines image = do
+  geometry ← refused_as image_status (volume_geometry image)
+  Ok (info_lines geometry)
 
--- for a geometry: its nine lines
-abbrev pub geometry_outcome : Result Geometry ImageFault → Outcome
-geometry_outcome (Ok geometry) = record { status = status.Done; output = info_lines geometry }
-geometry_outcome (Err fault) = refused (image_status fault)
+-- the lines for the image of a name
+unfoldable pub info_bytes : List ℕ → Files → Result (List ℕ) Status
+info_bytes name files = do
+  image ← ok_or (file_of files name) (status.Absent named.Image)
+  image_lines image
 
--- for the file of the image, which may be missing: the geometry that its bytes give
-abbrev pub file_outcome : Option (List ℕ) → Outcome
-file_outcome None = refused (status.Absent named.Image)
-file_outcome (Some bytes) = geometry_outcome (volume_geometry bytes)
-
--- for the name of the image, where the words are right
-abbrev pub image_outcome : Files → Option (List ℕ) → Outcome
-image_outcome files None = refused (status.Usage usage.Line)
-image_outcome files (Some name) = file_outcome (file_of files name)
-
--- for the words of a command line of this tool
-unfoldable pub info_outcome : List (List ℕ) → Files → Outcome
-info_outcome words files = image_outcome files (info_image words)
+-- the refusals of the tool, once its words are taken
+abbrev pub InfoRefuses : Status → Type 0
+InfoRefuses (status.Absent named.Image) = Unit {0}
+InfoRefuses status.NotNtfs = Unit {0}
+InfoRefuses (status.BadGeometry field value) = Unit {0}
+InfoRefuses (status.ImageShort len need) = Unit {0}
+InfoRefuses status.ReadFault = Unit {0}
+InfoRefuses status.WriteFault = Unit {0}
+InfoRefuses status.NoMemory = Unit {0}
+InfoRefuses other = ⊥

@@ -3,12 +3,12 @@ pub use Rattle.ntfs_base.specs.Shelf
 pub use Rattle.ntfs_base.specs.Source
 pub use Rattle.ntfs_base.specs.Sink
 pub use Rattle.ntfs_boot.specs.Geometry
-pub mod Words
+pub mod Numbers
 pub mod Code
 pub mod Outcome
 pub mod Info
-pub mod Numbers
 pub mod Cat
 pub mod Make
+pub mod Command
 pub mod Message
 pub mod Reply

@@ -1,6 +1,7 @@
--- How a number is spelled on a command line: 1 to 20 decimal digits, or `0x` and 1 to 16 hexadecimal digits of either case, below
--- 2^64. The rule is ours.
-use Rattle.std.specs.Prelude.{◌&&◌, ◌^◌, ℕ, Bool, true, List, [], ◌∷◌, length, drop, codes, Option, Some, None, nat_le, nat_lt, if◌then◌else◌}
+-- How a number is spelled on a command line: 1 to 20 decimal digits, or `0x` and 1 to 16 hexadecimal digits of either
+-- case, below 2^64. The rule is ours.
+use Rattle.std.specs.Prelude.{◌&&◌, ◌^◌, ℕ, Bool, true, List, [], ◌∷◌, length, drop, codes, Option, Some, None, nat_le}
+use Rattle.std.specs.Prelude.{nat_lt, if◌then◌else◌}
 use Rattle.std.specs.Char.{digit_value}
 use Rattle.std.specs.Prelude.{nat_eq}
 use Rattle.std.specs.List.{starts_with}
@@ -17,7 +18,8 @@ are_digits radix most text = nat_lt 0 (length text) && (nat_le (length text) mos
 -- the number that they spell, where it has 64 bits
 unfoldable pub digits_of : ℕ → ℕ → List ℕ → Option ℕ
 digits_of radix most text =
-    if are_digits radix most text && nat_lt (digits_value radix text) (2 ^ 64) then Some (digits_value radix text) else None
+    if are_digits radix most text && nat_lt (digits_value radix text) (2 ^ 64)
+    then Some (digits_value radix text) else None
 
 unfoldable pub number_of : List ℕ → Option ℕ
 number_of text = if starts_with nat_eq text (codes "0x") then digits_of 16 16 (drop 2 text) else digits_of 10 20 text

@@ -1,107 +1,49 @@
 //! `ntfscat`.
-ghost use Rattle.std.specs.Prelude.{◌≡◌, [], IsTrue, true, map, string_bytes};
-ghost use Rattle.ntfs_base.specs.Causes.{HaveNotFallen, Rose};
-ghost use Rattle.ntfs_base.specs.Shelf.{file_of};
+ghost use Rattle.std.specs.Prelude.{◌≡◌, [], true, IfErr, OnOk};
+ghost use Rattle.ntfs_base.specs.Frames.{Copies, IfFiles, IfTold, Puts, refused_as};
 ghost use Rattle.ntfs_show.specs.Cat.{cat_outcome};
-ghost use Rattle.ntfs_run.specs.Cat.{cat_line_outcome, number_outcome, record_outcome, stream_outcome};
-ghost use Rattle.ntfs_run.specs.Numbers.{number_of};
-ghost use Rattle.ntfs_run.specs.Outcome.{Answers, FaultCause, IsWhole, SinkHasNotFallen};
-ghost use Rattle.ntfs_run.specs.Reply.{IsListed};
+ghost use Rattle.ntfs_run.specs.Cat.{CatRefuses, cat_bytes, cat_status};
+ghost use Rattle.ntfs_run.specs.Outcome.{OnlyShows, status_origin};
 
-use crate::number::number_of;
-use crate::status::{Status, attach_status};
-use crate::words::cat_image;
-use ntfs_base::{Image, Named, Shelf, Sink, UsageKind};
+use crate::outside::{attach_image, flush};
+use crate::status::Status;
+use ntfs_base::{Image, Shelf, Sink};
 use ntfs_show::cat_record;
 use std::alloc::Global;
 
-/// Puts the unnamed data stream of a record of an image, and flushes the output.
-fn show_record<G: Image, O: Sink>(alloc: Global, number: u64, image: &mut G, out: &mut O) -> Status
-    ensures answers { IsTrue (G.seen image.old).is_told → Answers (stream_outcome (cat_outcome (G.seen image.old).content number)) result (O.seen out.old) (O.seen out.new) }
-    ensures flushed { IsWhole result (O.is_flushed out.new ≡ true) }
-    ensures cause { FaultCause result (Rose (G.faults image.old).reads (G.faults image.new).reads) (Rose (O.faults out.old).failures (O.faults out.new).failures) }
-    ensures counts { SinkHasNotFallen (O.faults out.old) (O.faults out.new) }
-    ensures listed { IsListed result }
-    ensures seen { G.seen image.new ≡ G.seen image.old }
-    ensures faults { HaveNotFallen (G.faults image.old) (G.faults image.new) }
+/// Puts the unnamed data stream of a record of the image of a name.
+pub fn cat<S: Shelf, O: Sink>(
+    alloc: Global,
+    name: &str,
+    number: u64,
+    shelf: &mut S,
+    out: &mut O,
+) -> Result<(), Status>
+    requires { (S.seen shelf.old).attached ≡ [] }
+    ensures puts { IfFiles S.Shelf shelf.old (λ files.
+        Puts status_origin (cat_bytes name.now number files) (O.seen out.old) result (O.seen out.new)) }
+    ensures shows { OnlyShows S.Shelf O.Sink CatRefuses shelf.old shelf.new out.old out.new result }
 {
-    match cat_record(alloc, image, number, out) {
-        Err(fault) => Status::from(fault),
-        Ok(()) => match out.flush() {
-            Err(_) => Status::WriteFault,
-            Ok(()) => Status::Done,
-        },
-    }
+    let mut file = attach_image(name, shelf)?;
+    let result = show_record(alloc, number, &mut file, out);
+    shelf.release(file);
+    result
 }
 
-/// Puts the stream of a record of the image of a name.
-fn cat_of<S: Shelf, O: Sink>(
+/// Puts the unnamed data stream of a record of an image and flushes the output.
+fn show_record<G: Image, O: Sink>(
     alloc: Global,
     number: u64,
-    name: &str,
-    shelf: &mut S,
+    image: &mut G,
     out: &mut O,
-) -> Status
-    requires { (S.seen shelf.old).attached ≡ [] }
-    ensures answers { IsTrue (S.seen shelf.old).is_told → Answers (record_outcome number (file_of (S.seen shelf.old).files name.now)) result (O.seen out.old) (O.seen out.new) }
-    ensures flushed { IsWhole result (O.is_flushed out.new ≡ true) }
-    ensures cause { FaultCause result (Rose (S.faults shelf.old).reads (S.faults shelf.new).reads) (Rose (O.faults out.old).failures (O.faults out.new).failures) }
-    ensures counts { SinkHasNotFallen (O.faults out.old) (O.faults out.new) }
-    ensures listed { IsListed result }
-    ensures seen { S.seen shelf.new ≡ S.seen shelf.old }
-    ensures faults { HaveNotFallen (S.faults shelf.old) (S.faults shelf.new) }
+) -> Result<(), Status>
+    ensures puts { IfTold G.Image image.old (λ content.
+        Puts status_origin (refused_as cat_status (cat_outcome content number)) (O.seen out.old) result
+        (O.seen out.new)) }
+    ensures copies { Copies G.Image O.Sink status_origin image.old image.new out.old out.new result }
+    ensures refusal { IfErr result CatRefuses }
+    ensures flushed { OnOk result (O.is_flushed out.new ≡ true) }
 {
-    match shelf.attach(name) {
-        Err(fault) => attach_status(Named::Image, fault),
-        Ok(mut file) => {
-            let status = show_record(alloc, number, &mut file, out);
-            shelf.release(file);
-            status
-        }
-    }
-}
-
-/// Puts the stream of the record that a word tells.
-fn cat_number<S: Shelf, O: Sink>(
-    alloc: Global,
-    spelled: &str,
-    name: &str,
-    shelf: &mut S,
-    out: &mut O,
-) -> Status
-    requires { (S.seen shelf.old).attached ≡ [] }
-    ensures answers { IsTrue (S.seen shelf.old).is_told → Answers (number_outcome (S.seen shelf.old).files name.now (number_of spelled.now)) result (O.seen out.old) (O.seen out.new) }
-    ensures flushed { IsWhole result (O.is_flushed out.new ≡ true) }
-    ensures cause { FaultCause result (Rose (S.faults shelf.old).reads (S.faults shelf.new).reads) (Rose (O.faults out.old).failures (O.faults out.new).failures) }
-    ensures counts { SinkHasNotFallen (O.faults out.old) (O.faults out.new) }
-    ensures listed { IsListed result }
-    ensures seen { S.seen shelf.new ≡ S.seen shelf.old }
-    ensures faults { HaveNotFallen (S.faults shelf.old) (S.faults shelf.new) }
-{
-    match number_of(spelled) {
-        None => Status::Usage {
-            kind: UsageKind::Number,
-        },
-        Some(number) => cat_of(alloc, number, name, shelf, out),
-    }
-}
-
-/// What `ntfscat` does for the words of its command line.
-#[tactic(auto, unfolding(crate::specs::Cat::cat_line_outcome))]
-pub fn cat<S: Shelf, O: Sink>(alloc: Global, words: &[String], shelf: &mut S, out: &mut O) -> Status
-    requires { (S.seen shelf.old).attached ≡ [] }
-    ensures answers { IsTrue (S.seen shelf.old).is_told → Answers (cat_line_outcome (map string_bytes words.now) (S.seen shelf.old).files) result (O.seen out.old) (O.seen out.new) }
-    ensures flushed { IsWhole result (O.is_flushed out.new ≡ true) }
-    ensures cause { FaultCause result (Rose (S.faults shelf.old).reads (S.faults shelf.new).reads) (Rose (O.faults out.old).failures (O.faults out.new).failures) }
-    ensures counts { SinkHasNotFallen (O.faults out.old) (O.faults out.new) }
-    ensures listed { IsListed result }
-    ensures seen { S.seen shelf.new ≡ S.seen shelf.old }
-    ensures faults { HaveNotFallen (S.faults shelf.old) (S.faults shelf.new) }
-{
-    match cat_image(words) {
-        None => Status::Usage {
-            kind: UsageKind::Line,
-        },
-        Some((spelled, name)) => cat_number(alloc, spelled, name, shelf, out),
-    }
+    cat_record(alloc, image, number, out)?;
+    flush(out)
 }

@@ -1,5 +1,5 @@
-//! What a command line asks for: its words are read, the tool that its first word names does its work, and the status tells
-//! how it ended.
+//! A command line, run: its words are read, the tool that the first word names does its work, and the status tells how
+//! it ended.
 #![tactic(auto)]
 
 mod cat;
@@ -8,9 +8,11 @@ mod info;
 mod make;
 mod message;
 mod number;
+mod outside;
+mod request;
 mod status;
-mod words;
 
 pub use command::run;
 pub use message::put_message;
+pub use request::{Request, Tool, read_request, tool_of};
 pub use status::Status;

@@ -1,14 +1,16 @@
 //! The line that says why a command was refused.
-ghost use Rattle.std.specs.Prelude.{◌≡◌, ◌≤◌, ◌+◌, ◌++◌, ◌∷◌, [], length, codes, map, string_bytes};
+ghost use Rattle.std.specs.Prelude.{◌≡◌, ◌≤◌, ◌+◌, ◌++◌, ◌∷◌, length, codes};
 ghost use Rattle.hex.specs.Hex.{encode_lower};
 ghost use Rattle.std.specs.Int.{w16, w32, to_be_bytes};
 ghost use Rattle.ntfs_base.specs.Sink.{Put};
 ghost use Rattle.ntfs_base.specs.Causes.{SinkCause};
-ghost use Rattle.ntfs_run.specs.Message.{counted, flags_text, lack_text, line_for, message_of, missing_text, name_of, named_in, rule_number, rule_text, status_text, tool_word, type_text, usage_text, without_zeros};
-ghost use Rattle.ntfs_run.specs.Words.{tool_of, word_at};
+ghost use Rattle.ntfs_run.specs.Command.{command_of, reading_of};
+ghost use Rattle.ntfs_run.specs.Message.{with_number, file_named, flags_text, lack_text, line_for, message_for};
+ghost use Rattle.ntfs_run.specs.Message.{missing_text, name_in, rule_number, rule_text, status_text, tool_word};
+ghost use Rattle.ntfs_run.specs.Message.{type_text, usage_text, without_zeros};
 
+use crate::request::{Request, Tool, tool_name};
 use crate::status::Status;
-use crate::words::{Tool, tool_name, tool_of};
 use ntfs_base::{Lack, Line, Missing, Named, PutFault, Rule, Sink, UsageKind};
 
 /// Appends the text of a status, up to the name of a file.
@@ -108,7 +110,7 @@ fn push_pair(line: &mut Line, text: &[u8], more: &[u8])
 fn push_number(line: &mut Line, text: &[u8], number: u64)
     requires room { length line.old ≤ 160 }
     requires short { length text.now ≤ 40 }
-    ensures value { line.new ≡ line.old ++ counted text.now number }
+    ensures value { line.new ≡ line.old ++ with_number text.now number }
     ensures room { length line.new ≤ length line.old + (length text.now + 20) }
 {
     line.push(text);
@@ -120,7 +122,7 @@ fn push_two(line: &mut Line, text: &[u8], number: u64, more: &[u8], other: u64)
     requires room { length line.old ≤ 100 }
     requires text { length text.now ≤ 20 }
     requires more { length more.now ≤ 40 }
-    ensures value { line.new ≡ line.old ++ (counted text.now number ++ counted more.now other) }
+    ensures value { line.new ≡ line.old ++ (with_number text.now number ++ with_number more.now other) }
     ensures room { length line.new ≤ length line.old + 100 }
 {
     push_number(line, text, number);
@@ -238,27 +240,37 @@ fn lack_text(lack: Lack) -> &'static [u8]
 }
 
 /// Puts the line for a status, and nothing where the work was done. It takes no memory.
-pub fn put_message<E: Sink>(words: &[String], status: &Status, err: &mut E) -> Result<(), PutFault>
-    ensures put { Put (message_of (map string_bytes words.now) status.now) (E.seen err.old) result (E.seen err.new) }
+pub fn put_message<E: Sink>(
+    tool: Option<Tool>,
+    request: Result<Request<'_>, UsageKind>,
+    status: &Status,
+    err: &mut E,
+) -> Result<(), PutFault>
+    ensures put { Put (message_for tool (reading_of request.entry) status.now) (E.seen err.old) result
+        (E.seen err.new) }
     ensures cause { SinkCause (E.faults err.old) (E.faults err.new) result }
 {
     match *status {
         Status::Done => Ok(()),
-        _ => put_line(words, status, err),
+        _ => put_line(tool, request, status, err),
     }
 }
 
 #[tactic(auto, unfolding(crate::specs::Message::line_for))]
-fn put_line<E: Sink>(words: &[String], status: &Status, err: &mut E) -> Result<(), PutFault>
-    ensures put { Put (line_for (map string_bytes words.now) status.now) (E.seen err.old) result (E.seen err.new) }
+fn put_line<E: Sink>(
+    tool: Option<Tool>,
+    request: Result<Request<'_>, UsageKind>,
+    status: &Status,
+    err: &mut E,
+) -> Result<(), PutFault>
+    ensures put { Put (line_for tool (reading_of request.entry) status.now) (E.seen err.old) result (E.seen err.new) }
     ensures cause { SinkCause (E.faults err.old) (E.faults err.new) result }
 {
     let mut front = Line::new();
-    let tool = tool_of(words);
     front.push(tool_word(tool));
     front.push(b": ");
     push_status(&mut front, status);
-    put_three(err, front.as_bytes(), named_in(status, tool, words), b"\n")
+    put_three(err, front.as_bytes(), name_in(request, status), b"\n")
 }
 
 /// Puts three texts, one after the other.
@@ -267,10 +279,10 @@ fn put_three<E: Sink>(err: &mut E, front: &[u8], name: &[u8], end: &[u8]) -> Res
     ensures cause { SinkCause (E.faults err.old) (E.faults err.new) result }
 {
     err.put(front)?;
-    put_both(err, name, end)
+    put_two(err, name, end)
 }
 
-fn put_both<E: Sink>(err: &mut E, name: &[u8], end: &[u8]) -> Result<(), PutFault>
+fn put_two<E: Sink>(err: &mut E, name: &[u8], end: &[u8]) -> Result<(), PutFault>
     ensures put { Put (name.now ++ end.now) (E.seen err.old) result (E.seen err.new) }
     ensures cause { SinkCause (E.faults err.old) (E.faults err.new) result }
 {
@@ -289,32 +301,24 @@ fn tool_word(tool: Option<Tool>) -> &'static [u8]
 }
 
 /// The name of the host file that a status speaks of.
-fn named_in<'a>(status: &Status, tool: Option<Tool>, words: &'a [String]) -> &'a [u8]
-    ensures { result.now ≡ named_in status.now tool (map string_bytes words.entry.now) }
+fn name_in<'a>(request: Result<Request<'a>, UsageKind>, status: &Status) -> &'a [u8]
+    ensures { result.now ≡ name_in (reading_of request.entry) status.now }
 {
-    match *status {
-        Status::Absent { file } | Status::Present { file } => name_of(tool, file, words),
+    match (request, *status) {
+        (Ok(request), Status::Absent { file }) => file_named(request, file).as_bytes(),
+        (Ok(request), Status::Present { file }) => file_named(request, file).as_bytes(),
         _ => b"",
     }
 }
 
-fn name_of<'a>(tool: Option<Tool>, _file: Named, words: &'a [String]) -> &'a [u8]
-    ensures { result.now ≡ name_of tool _file (map string_bytes words.entry.now) }
+/// The name of a host file of a request.
+fn file_named<'a>(request: Request<'a>, file: Named) -> &'a str
+    ensures { result.now ≡ file_named (command_of request.entry) file }
 {
-    match tool {
-        None => b"",
-        Some(Tool::Info) => word_at(words, 2),
-        Some(Tool::Cat) => word_at(words, 3),
-        Some(Tool::Make) => word_at(words, 1),
-    }
-}
-
-/// The word at a place, or nothing where there is none.
-fn word_at(words: &[String], place: usize) -> &[u8]
-    ensures { result.now ≡ word_at place (map string_bytes words.entry.now) }
-{
-    match words.get(place) {
-        Some(word) => word.as_bytes(),
-        None => b"",
+    match (request, file) {
+        (Request::Info { image }, Named::Image) => image,
+        (Request::Cat { image, .. }, Named::Image) => image,
+        (Request::Make { file, .. }, Named::Output) => file,
+        _ => "",
     }
 }

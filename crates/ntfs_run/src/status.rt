@@ -1,5 +1,6 @@
-use ntfs_base::{Lack, Missing, Named, Rule, ShelfFault, UsageKind};
+use ntfs_base::{Lack, Missing, Named, PutFault, Rule, UsageKind};
 use ntfs_boot::ImageFault;
+use ntfs_make::MakeFault;
 use ntfs_show::{CatFault, ShowFault};
 
 /// How a command ended.
@@ -136,17 +137,30 @@ impl From<CatFault> for Status {
     }
 }
 
-ghost use Rattle.std.specs.Prelude.{◌≡◌};
-ghost use Rattle.ntfs_run.specs.Outcome.{attach_status};
+impl From<PutFault> for Status {
+    ghost use Rattle.std.specs.Prelude.{◌≡◌};
+    ghost use Rattle.ntfs_run.specs.Outcome.{put_status};
 
-/// Why the file that is meant wasn't attached.
-pub fn attach_status(file: Named, fault: ShelfFault) -> Status
-    ensures { result ≡ attach_status file fault }
-{
-    match fault {
-        ShelfFault::Absent => Status::Absent { file },
-        ShelfFault::Present => Status::Present { file },
-        ShelfFault::Failed => Status::ReadFault,
-        ShelfFault::NoMemory => Status::NoMemory,
+    ghost from_gives = { λ fault status. status ≡ put_status fault };
+
+    fn from(fault: PutFault) -> Status {
+        match fault {
+            PutFault::Failed => Status::WriteFault,
+            PutFault::NoMemory => Status::NoMemory,
+        }
+    }
+}
+
+impl From<MakeFault> for Status {
+    ghost use Rattle.std.specs.Prelude.{◌≡◌};
+    ghost use Rattle.ntfs_run.specs.Make.{make_status};
+
+    ghost from_gives = { λ fault status. status ≡ make_status fault };
+
+    fn from(fault: MakeFault) -> Status {
+        match fault {
+            MakeFault::WriteFault => Status::WriteFault,
+            MakeFault::NoMemory => Status::NoMemory,
+        }
     }
 }

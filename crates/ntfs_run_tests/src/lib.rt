@@ -2,4 +2,20 @@
 #![tactic(auto)]
 
 #[cfg(test)]
-mod tests;
+mod case;
+#[cfg(test)]
+mod cat;
+#[cfg(test)]
+mod faults;
+#[cfg(test)]
+mod info;
+#[cfg(test)]
+mod make;
+#[cfg(test)]
+mod memory;
+#[cfg(test)]
+mod message;
+#[cfg(test)]
+mod statuses;
+#[cfg(test)]
+mod volume;

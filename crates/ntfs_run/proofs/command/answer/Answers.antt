@@ -1,8 +1,6 @@
-use Rattle.std.proofs.Common.{sym}
-use Rattle.ntfs_base.specs.declared.refusal.UsageKind.TheVariants as usage
-use Rattle.ntfs_run.specs.declared.status.Status.TheVariants as status
-use Rattle.ntfs_run.proofs.OutcomeLemmas.{answers_refused}
+use Rattle.std.proofs.Common.{refl}
+use Rattle.ntfs_run.proofs.ToolLemmas.{does_refused}
 use Rattle.ntfs_run.proofs.command.answer.Goals as goal
 
-pub returns-in-None-clause-answers : goal.returns-in-None-clause-answers
-returns-in-None-clause-answers g c told = rw (sym c.in-None.ensures) (answers_refused (status.Usage usage.Tool) _)
+pub returns-in-Err-clause-does : goal.returns-in-Err-clause-does
+returns-in-Err-clause-does g c told = rw c.in-Err.is (does_refused _ _ _ _ _ _ refl refl (λ settled. refl))

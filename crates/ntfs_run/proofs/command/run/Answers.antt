@@ -1,29 +1,8 @@
-use Rattle.std.proofs.Common.{ap, map, string_bytes}
-use Rattle.ntfs_run.specs.Message.{message_of}
-use Rattle.ntfs_run.specs.Reply.{reply}
-use Rattle.ntfs_run.specs.Words.{tool_of}
-use Rattle.ntfs_run.proofs.CatLemmas.{puts_stream}
+use Rattle.ntfs_run.proofs.ReplyLemmas.{replies}
 use Rattle.ntfs_run.proofs.command.run.Goals as goal
 
-pub returns-clause-status : goal.returns-clause-status
-unfolding reply
-returns-clause-status g c told settled = (c.answer-status.ensures.answers told).status settled
-
-pub returns-clause-output : goal.returns-clause-output
-unfolding reply
-returns-clause-output g c told settled = (c.answer-status.ensures.answers told).output settled
-
-pub returns-clause-line : goal.returns-clause-line
-unfolding reply
-returns-clause-line g c told settled = ap (message_of (map string_bytes c.args.words.now)) ((c.answer-status.ensures.answers told).status settled)
-
-pub returns-clause-files : goal.returns-clause-files
-unfolding reply
-returns-clause-files g c told settled = c.answer-status.ensures.files told settled
-
-pub returns-clause-front : goal.returns-clause-front
-unfolding reply
-returns-clause-front g c told = (c.answer-status.ensures.answers told).front
-
-pub returns-clause-stream : goal.returns-clause-stream
-returns-clause-stream g c told = puts_stream (tool_of (map string_bytes c.args.words.now)) (map string_bytes c.args.words.now) _ c.answer-status.result _ _ (c.answer-status.ensures.answers told)
+pub returns-clause-replies : goal.returns-clause-replies
+returns-clause-replies g c = rw c.status_of-status.ensures (replies g.S.Shelf g.O.Sink g.E.Sink _ _ c.args.shelf.now c.answer.new.shelf c.args.out.now c.answer.new.out
+    c.args.err.now c.put_message.new.err c.answer.result c.put_message.result c.read_request-request.ensures.reading c.answer.ensures.does c.answer.ensures.left
+    c.answer.ensures.runs c.answer.ensures.taken c.answer.ensures.shows
+    (rw (c.tool_of.ensures, c.status_of-status.ensures) at c.put_message.ensures.put) c.put_message.ensures.cause)

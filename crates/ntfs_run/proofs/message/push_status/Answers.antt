@@ -1,5 +1,5 @@
 use Rattle.std.proofs.Common.{◌++◌, ap, ◌∙◌, append_assoc, codes}
-use Rattle.ntfs_run.specs.Message.{counted, status_text, lack_text}
+use Rattle.ntfs_run.specs.Message.{with_number, status_text, lack_text}
 use Rattle.ntfs_run.proofs.MessageLemmas.{append_three}
 use Rattle.ntfs_run.proofs.message.push_status.Goals as goal
 
@@ -18,7 +18,7 @@ returns-in-Dirty-clause-value c = rw c.in-Dirty.is c.push_text-in-Dirty.ensures.
 pub returns-in-ShortClusters-clause-value : goal.returns-in-ShortClusters-clause-value
 unfolding status_text
 returns-in-ShortClusters-clause-value c =
-    rw c.in-ShortClusters.is (c.push_text-in-ShortClusters.ensures.value ∙ ap (λ text. text ++ codes " are free") c.push_two-in-ShortClusters.ensures.value ∙ append_assoc c.args.line.now (counted (codes "needs ") c.in-ShortClusters.need ++ counted (codes " clusters, ") c.in-ShortClusters.free) (codes " are free"))
+    rw c.in-ShortClusters.is (c.push_text-in-ShortClusters.ensures.value ∙ ap (λ text. text ++ codes " are free") c.push_two-in-ShortClusters.ensures.value ∙ append_assoc c.args.line.now (with_number (codes "needs ") c.in-ShortClusters.need ++ with_number (codes " clusters, ") c.in-ShortClusters.free) (codes " are free"))
 
 pub returns-in-ShortRun-clause-value : goal.returns-in-ShortRun-clause-value
 unfolding status_text
@@ -28,10 +28,10 @@ pub returns-in-ShortGeometry-clause-value : goal.returns-in-ShortGeometry-clause
 unfolding status_text
 returns-in-ShortGeometry-clause-value c = rw c.in-ShortGeometry.is
     (c.push_number-in-ShortGeometry-2.ensures.value
-    ∙ ap (λ text. text ++ counted (codes ", needs ") c.in-ShortGeometry.need)
-    (c.push_number-in-ShortGeometry.ensures.value ∙ ap (λ text. text ++ counted (codes " has ") c.in-ShortGeometry.have)
+    ∙ ap (λ text. text ++ with_number (codes ", needs ") c.in-ShortGeometry.need)
+    (c.push_number-in-ShortGeometry.ensures.value ∙ ap (λ text. text ++ with_number (codes " has ") c.in-ShortGeometry.have)
     (c.push_pair-in-ShortGeometry.ensures.value ∙ ap (λ lack. c.args.line.now ++ (codes "size out of range: " ++ lack)) c.lack_text.ensures.value))
-    ∙ append_three c.args.line.now (codes "size out of range: " ++ lack_text c.in-ShortGeometry.lack) (counted (codes " has ") c.in-ShortGeometry.have) (counted (codes ", needs ") c.in-ShortGeometry.need))
+    ∙ append_three c.args.line.now (codes "size out of range: " ++ lack_text c.in-ShortGeometry.lack) (with_number (codes " has ") c.in-ShortGeometry.have) (with_number (codes ", needs ") c.in-ShortGeometry.need))
 
 pub returns-in-NotPlain-clause-value : goal.returns-in-NotPlain-clause-value
 unfolding status_text

@@ -1,0 +1,130 @@
+-- What the tools share: refusals with their causes, and files that are released.
+use Rattle.std.proofs.Common.{◌≡◌, ◌≤◌, ℕ, Bool, true, false, List, [], refl, sym, ap, subst, ◌∙◌, inr, arith}
+use Rattle.std.proofs.Common.{Result, Ok, Err, Option, Some, None, IfErr, OnOk, ok_or}
+use Rattle.std.proofs.lemmas.Result.{IfErr-weaker}
+use Rattle.ntfs_base.specs.Causes.{HaveNotFallen, Rose}
+use Rattle.ntfs_base.specs.Frames.{Because, Copies, IsSettled, Origin, content, reading, writing, memory}
+use Rattle.ntfs_base.specs.Frames.{Puts, PutsPrefix, bytes_in, must, refused_as, without_bytes, ◌>>=◌}
+use Rattle.ntfs_base.specs.Shelf.{Files, IsHandedOut}
+use Rattle.ntfs_base.specs.Shelf.{added_count, after_attach, after_release, has_name}
+use Rattle.ntfs_base.specs.Sink.{SinkState, after_put}
+use Rattle.ntfs_base.specs.declared.image.Image as image
+use Rattle.ntfs_base.specs.declared.shelf.Shelf as shelf
+use Rattle.ntfs_base.specs.declared.sink.Sink as sink
+use Rattle.ntfs_base.proofs.AttachLemmas.{Rose-added, after_release-attached, has_name-attached}
+use Rattle.ntfs_base.proofs.SinkLemmas.{after_put-nil}
+use Rattle.ntfs_run.specs.Outcome.{Does, Outcome, MayWriteFiles, OnlyShows, refused_with, shows, status_of, status_origin}
+use Rattle.ntfs_run.specs.declared.status.Status.{Status}
+
+-- ---- refusals
+
+pub because_map : {R W M r w m : Type 0} (origin : Origin) → (R → r) → (W → w) → (M → m) → Because origin R W M → Because origin r w m
+because_map content read write want is = tt
+because_map reading read write want is = read is
+because_map writing read write want is = write is
+because_map memory read write want is = want is
+
+-- a fault of a file that was handed out without one is the shelf's
+pub rose_released : (before old new from more : ℕ) → before ≤ old → new ≡ added_count old more → from ≡ 0 → Rose from more → Rose before new
+rose_released before old new from more kept is none rose = Rose-added before old new more kept is (subst (λ n. Rose n more) none rose)
+
+-- ---- definitions that refuse, where they give a value
+
+pub bind_ok : {A B E : Type 0} (r : Result A E) (f : A → Result B E) (y : B) → (r >>= f) ≡ Ok y → (x : A) × (r ≡ Ok x) × (f x ≡ Ok y)
+bind_ok (Ok x) f y is = (x, refl, is)
+bind_ok (Err fault) f y is = absurd cc
+
+pub refused_ok : {A E F : Type 0} (over : E → F) (r : Result A E) (x : A) → refused_as over r ≡ Ok x → r ≡ Ok x
+refused_ok over (Ok y) x is = let same : y ≡ x = cc in ap Ok same
+refused_ok over (Err fault) x is = absurd cc
+
+pub must_ok : {E : Type 0} (b : Bool) (fault : E) (x : Unit {0}) → must b fault ≡ Ok x → b ≡ true
+must_ok true fault x is = refl
+must_ok false fault x is = absurd cc
+
+pub given_some : {A E : Type 0} (o : Option A) (fault : E) (x : A) → ok_or o fault ≡ Ok x → o ≡ Some x
+given_some (Some y) fault x is = let same : y ≡ x = cc in ap Some same
+given_some None fault x is = absurd cc
+
+-- ---- an image that is only read
+
+-- its name is attached until it is released
+pub shown_is_attached : {S F K : Type 0} (s : shelf.Ghosts S F) (f : image.Ghosts F) (k : sink.Ghosts K) (old held : S) (file shown : F)
+    (before after : K) (name : List ℕ) (result : Result (Unit {0}) Status) → IsHandedOut (s.seen old) name (f.seen file) (f.faults file)
+    → s.seen held ≡ after_attach name (s.seen old) → Copies f k status_origin file shown before after result
+    → has_name (f.seen shown).name (s.seen held).attached ≡ true
+shown_is_attached s f k old held file shown before after name result out attached copies =
+    ap (λ image. has_name image.name (s.seen held).attached) copies.seen
+    ∙ ap (λ shelf. has_name (f.seen file).name shelf.attached) attached
+    ∙ has_name-attached name (s.seen old) (f.seen file) out.bears
+
+-- and then the shelf is as before
+pub shows_released : {S F K : Type 0} (s : shelf.Ghosts S F) (f : image.Ghosts F) (k : sink.Ghosts K) (has : Status → Type 0)
+    (old held new : S) (file shown : F) (before after : K) (name : List ℕ) (result : Result (Unit {0}) Status)
+    → IsHandedOut (s.seen old) name (f.seen file) (f.faults file) → s.seen held ≡ after_attach name (s.seen old)
+    → HaveNotFallen (s.faults old) (s.faults held) → Copies f k status_origin file shown before after result → IfErr result has
+    → OnOk result (k.is_flushed after ≡ true) → s.seen new ≡ after_release (f.seen shown) (s.seen held)
+    → (s.faults new).reads ≡ added_count (s.faults held).reads (f.faults shown).reads → HaveNotFallen (s.faults held) (s.faults new)
+    → OnlyShows s k has old new before after result
+shows_released s f k has old held new file shown before after name result out attached kept copies refusal flushed released reads counts = record {
+  seen = released ∙ ap (λ image. after_release image (s.seen held)) copies.seen ∙ ap (after_release (f.seen file)) attached
+      ∙ after_release-attached name (s.seen old) (f.seen file) out.bears out.bytes;
+  counts = record { reads = omega (arith, kept.reads, counts.reads); writes = omega (arith, kept.writes, counts.writes) };
+  puts = copies.puts;
+  cause = IfErr-weaker result _ _ (λ fault. because_map (status_origin fault)
+      (rose_released _ (s.faults held).reads _ (f.faults file).reads (f.faults shown).reads kept.reads reads out.reads) (λ rose. rose) (λ want. want)) copies.cause;
+  refusal = refusal;
+  flushed = flushed;
+}
+
+-- a tool that only shows, among those that may write
+pub runs_shown : {S F K : Type 0} (s : shelf.Ghosts S F) (k : sink.Ghosts K) (has : Status → Type 0) (old new : S) (before after : K)
+    (result : Result (Unit {0}) Status) → (s.seen old).attached ≡ [] → OnlyShows s k has old new before after result
+    → MayWriteFiles s k has old new before after result
+runs_shown s k has old new before after result none shown = record {
+  told = ap (λ shelf. shelf.is_told) shown.seen;
+  detached = ap (λ shelf. shelf.attached) shown.seen ∙ none;
+  counts = shown.counts;
+  puts = shown.puts;
+  cause = IfErr-weaker result _ _ (λ fault. because_map (status_origin fault) (λ rose. rose) (λ rose. inr rose) (λ want. want)) shown.cause;
+  refusal = shown.refusal;
+  flushed = shown.flushed;
+}
+
+shown_status : (files : Files) (expected : Result (List ℕ) Status) → status_of (without_bytes expected) ≡ (shows files expected).status
+shown_status files (Ok bytes) = refl
+shown_status files (Err fault) = refl
+
+shown_output : (files : Files) (expected : Result (List ℕ) Status) → bytes_in expected ≡ (shows files expected).output
+shown_output files (Ok bytes) = refl
+shown_output files (Err fault) = refl
+
+shown_files : (files : Files) (expected : Result (List ℕ) Status) → files ≡ (shows files expected).files
+shown_files files (Ok bytes) = refl
+shown_files files (Err fault) = refl
+
+-- what was put is the outcome of a tool that only shows
+pub does_shown : (files left : Files) (expected : Result (List ℕ) Status) (result : Result (Unit {0}) Status) (before after : SinkState)
+    → Puts status_origin expected before result after → left ≡ files → Does (shows files expected) (status_of result) before after left
+does_shown files left expected (Ok x) before after is same = record {
+  status = λ settled. ap status_of (is.answer tt) ∙ shown_status files expected;
+  output = λ settled. is.output tt ∙ ap (λ bytes. after_put bytes before) (shown_output files expected);
+  files = λ settled. same ∙ shown_files files expected;
+  prefix = subst (λ bytes. PutsPrefix bytes before after) (shown_output files expected) is.prefix;
+}
+does_shown files left expected (Err fault) before after is same = record {
+  status = λ settled. ap status_of (is.answer settled) ∙ shown_status files expected;
+  output = λ settled. is.output settled ∙ ap (λ bytes. after_put bytes before) (shown_output files expected);
+  files = λ settled. same ∙ shown_files files expected;
+  prefix = subst (λ bytes. PutsPrefix bytes before after) (shown_output files expected) is.prefix;
+}
+
+-- a refusal that puts nothing and changes no file
+pub does_refused : (outcome : Outcome) (fault : Status) (files left : Files) (before after : SinkState) → after ≡ before → left ≡ files
+    → (IsSettled (status_origin fault) → outcome ≡ refused_with fault files) → Does outcome fault before after left
+does_refused outcome fault files left before after same kept is = record {
+  status = λ settled. sym (ap (λ o. o.status) (is settled));
+  output = λ settled. same ∙ sym (ap (λ o. after_put o.output before) (is settled) ∙ after_put-nil before);
+  files = λ settled. kept ∙ sym (ap (λ o. o.files) (is settled));
+  prefix = (0, omega arith, same ∙ sym (after_put-nil before));
+}

@@ -1,0 +1,405 @@
+//! `ntfscat` over the small volume.
+use crate::case::{Case, Image, all_answer};
+use crate::statuses::{LINE, NO_IMAGE, NUMBER, damaged, no_record, not_plain};
+use crate::volume::{
+    Attribute, DATA, FIRST, IN_USE, LIST, Record, SMALL_LEN, bare_volume, small_volume, two_runs,
+    zeros,
+};
+use ntfs_base::{Missing, Rule};
+use ntfs_run::Status;
+use std::test::Fail;
+
+/// Record 20 in use, without attributes.
+const BLANK: Record = Record {
+    number: 20,
+    flags: IN_USE,
+    base: 0,
+    attributes: &[],
+};
+
+/// Record 20 with a text.
+const TEXT: Record = Record {
+    attributes: &[Attribute::Resident {
+        kind: DATA,
+        flags: 0,
+        value: b"text",
+    }],
+    ..BLANK
+};
+
+const TWENTY: [&str; 4] = ["ntfscat", "-i", "20", "v"];
+
+#[test]
+fn streams_are_put(rt: HostRuntime) -> Result<(), Fail> {
+    let alloc = rt.alloc();
+    let want = two_runs(alloc)?;
+    let hello = Case::done(&TWENTY, Image::of(SMALL_LEN), b"hello, ntfs\n");
+    let runs = Case::done(&TWENTY, Image::of(SMALL_LEN), &want);
+    let cases = [
+        hello.of(&["ntfscat", "-i", "16", "v"]),
+        hello.of(&["ntfscat", "-i", "0x10", "v"]),
+        hello.of(&["ntfscat", "-i", "00000000000000000016", "v"]),
+        hello.of(&["ntfscat", "-i", "0x0000000000000010", "v"]),
+        runs.of(&["ntfscat", "-i", "17", "v"]),
+        runs.of(&["ntfscat", "-i", "0x11", "v"]),
+    ];
+    let base = small_volume(alloc).ok_or("no image")?;
+    all_answer(&rt, alloc, &base, &cases)
+}
+
+/// A hole before a cluster.
+const HOLE: Record = Record {
+    attributes: &[Attribute::Runs {
+        clusters: 2,
+        size: 1026,
+        valid: 1026,
+        pairs: &[0x01, 0x01, 0x11, 0x01, 0x32, 0],
+    }],
+    ..BLANK
+};
+
+const NO_RUNS: Record = Record {
+    attributes: &[Attribute::Runs {
+        clusters: 0,
+        size: 0,
+        valid: 0,
+        pairs: &[0],
+    }],
+    ..BLANK
+};
+
+const NO_VALUE: Record = Record {
+    attributes: &[Attribute::Resident {
+        kind: DATA,
+        flags: 0,
+        value: b"",
+    }],
+    ..BLANK
+};
+
+#[test]
+fn holes_and_empty_streams_are_put(rt: HostRuntime) -> Result<(), Fail> {
+    let alloc = rt.alloc();
+    let mut want = zeros(alloc, 1024)?;
+    want.extend_from_slice(b"22")?;
+    let image = Image::of(SMALL_LEN);
+    let cases = [
+        Case::done(&TWENTY, image.with(&[FIRST, HOLE]), &want),
+        Case::done(&TWENTY, image.with(&[FIRST, NO_RUNS]), b""),
+        Case::done(&TWENTY, image.with(&[FIRST, NO_VALUE]), b""),
+    ];
+    let base = bare_volume(alloc).ok_or("no image")?;
+    all_answer(&rt, alloc, &base, &cases)
+}
+
+#[test]
+fn records_are_missing(rt: HostRuntime) -> Result<(), Fail> {
+    let alloc = rt.alloc();
+    let missing = Case::refused(&TWENTY, Image::of(SMALL_LEN), no_record(20), 7, "");
+    let cases = [
+        missing
+            .of(&["ntfscat", "-i", "18", "v"])
+            .but(no_record(18), "ntfscat: not found: record 18\n"),
+        missing
+            .of(&["ntfscat", "-i", "32", "v"])
+            .but(no_record(32), "ntfscat: not found: record 32\n"),
+        missing
+            .of(&["ntfscat", "-i", "18446744073709551615", "v"])
+            .but(
+                no_record(u64::MAX),
+                "ntfscat: not found: record 18446744073709551615\n",
+            ),
+    ];
+    let base = small_volume(alloc).ok_or("no image")?;
+    all_answer(&rt, alloc, &base, &cases)
+}
+
+/// A record that isn't in use.
+const FREE: Record = Record { flags: 0, ..TEXT };
+
+/// An extension record.
+const EXTENSION: Record = Record { base: 16, ..TEXT };
+
+const NO_STREAM: Status = Status::NotFound {
+    what: Missing::Stream,
+};
+
+#[test]
+fn streams_are_missing(rt: HostRuntime) -> Result<(), Fail> {
+    let alloc = rt.alloc();
+    let image = Image::of(SMALL_LEN);
+    let missing = Case::refused(
+        &TWENTY,
+        image,
+        no_record(20),
+        7,
+        "ntfscat: not found: record 20\n",
+    );
+    let cases = [
+        missing.over(image.with(&[FIRST, FREE])),
+        missing.over(image.with(&[FIRST, EXTENSION])),
+        missing
+            .over(image.with(&[FIRST, BLANK]))
+            .but(NO_STREAM, "ntfscat: not found: stream\n"),
+    ];
+    let base = bare_volume(alloc).ok_or("no image")?;
+    all_answer(&rt, alloc, &base, &cases)
+}
+
+const COMPRESSED: Record = Record {
+    attributes: &[Attribute::Resident {
+        kind: DATA,
+        flags: 0x0001,
+        value: b"text",
+    }],
+    ..BLANK
+};
+
+const ENCRYPTED: Record = Record {
+    attributes: &[Attribute::Resident {
+        kind: DATA,
+        flags: 0x4000,
+        value: b"text",
+    }],
+    ..BLANK
+};
+
+/// A sparse stream is plain.
+const SPARSE: Record = Record {
+    attributes: &[Attribute::Resident {
+        kind: DATA,
+        flags: 0x8000,
+        value: b"text",
+    }],
+    ..BLANK
+};
+
+#[test]
+fn streams_that_are_not_plain_are_refused(rt: HostRuntime) -> Result<(), Fail> {
+    let alloc = rt.alloc();
+    let image = Image::of(SMALL_LEN);
+    let refused = Case::refused(&TWENTY, image, NO_STREAM, 8, "");
+    let cases = [
+        refused.over(image.with(&[FIRST, COMPRESSED])).but(
+            not_plain(0x0001),
+            "ntfscat: stream is not plain: flags 0x0001\n",
+        ),
+        refused.over(image.with(&[FIRST, ENCRYPTED])).but(
+            not_plain(0x4000),
+            "ntfscat: stream is not plain: flags 0x4000\n",
+        ),
+        Case::done(&TWENTY, image.with(&[FIRST, SPARSE]), b"text"),
+    ];
+    let base = bare_volume(alloc).ok_or("no image")?;
+    all_answer(&rt, alloc, &base, &cases)
+}
+
+const BAD_PAIRS: Record = Record {
+    attributes: &[Attribute::Runs {
+        clusters: 1,
+        size: 1,
+        valid: 1,
+        pairs: &[0x91, 0x01, 0x32, 0],
+    }],
+    ..BLANK
+};
+
+const LONG_SIZE: Record = Record {
+    attributes: &[Attribute::Runs {
+        clusters: 1,
+        size: 1025,
+        valid: 1,
+        pairs: &[0x11, 0x01, 0x32, 0],
+    }],
+    ..BLANK
+};
+
+const LISTED: Record = Record {
+    attributes: &[
+        Attribute::Resident {
+            kind: LIST,
+            flags: 0,
+            value: b"",
+        },
+        Attribute::Resident {
+            kind: DATA,
+            flags: 0,
+            value: b"text",
+        },
+    ],
+    ..BLANK
+};
+
+/// Where record 20 stands.
+const PLACE: usize = 24 * 1024;
+
+#[test]
+fn damaged_records_are_refused(rt: HostRuntime) -> Result<(), Fail> {
+    let alloc = rt.alloc();
+    let image = Image::of(SMALL_LEN);
+    let text = image.with(&[FIRST, TEXT]);
+    let c4 = Case::refused(
+        &TWENTY,
+        text,
+        damaged(Rule::C4, 20),
+        4,
+        "ntfscat: damaged: rule C4 record 20\n",
+    );
+    let cases = [
+        // A check word is torn, the number is another one, more bytes are in use than there are.
+        c4.over(text.damaged(&[(PLACE + 0x1FE, &[9])])),
+        c4.over(text.damaged(&[(PLACE + 0x2C, &[21])])),
+        c4.over(text.damaged(&[(PLACE + 0x19, &[5])])),
+        c4.over(image.with(&[FIRST, BAD_PAIRS])).but(
+            damaged(Rule::C7, 20),
+            "ntfscat: damaged: rule C7 record 20\n",
+        ),
+        c4.over(image.with(&[FIRST, LONG_SIZE])).but(
+            damaged(Rule::C12, 20),
+            "ntfscat: damaged: rule C12 record 20\n",
+        ),
+        c4.over(image.with(&[FIRST, LISTED])).but(
+            damaged(Rule::C11, 20),
+            "ntfscat: damaged: rule C11 record 20\n",
+        ),
+    ];
+    let base = bare_volume(alloc).ok_or("no image")?;
+    all_answer(&rt, alloc, &base, &cases)
+}
+
+/// Record 0 that isn't in use.
+const FREE_FIRST: Record = Record { flags: 0, ..FIRST };
+
+const BLANK_FIRST: Record = Record {
+    attributes: &[],
+    ..FIRST
+};
+
+/// $MFT has a hole.
+const HOLE_FIRST: Record = Record {
+    attributes: &[Attribute::Runs {
+        clusters: 32,
+        size: 32_768,
+        valid: 32_768,
+        pairs: &[0x11, 0x1F, 0x04, 0x01, 0x01, 0],
+    }],
+    ..FIRST
+};
+
+/// $MFT has eleven records.
+const SHORT_FIRST: Record = Record {
+    attributes: &[Attribute::Runs {
+        clusters: 32,
+        size: 11_264,
+        valid: 11_264,
+        pairs: &[0x11, 0x20, 0x04, 0],
+    }],
+    ..FIRST
+};
+
+/// Record 0 has an attribute list.
+const LISTED_FIRST: Record = Record {
+    attributes: &[
+        Attribute::Resident {
+            kind: LIST,
+            flags: 0,
+            value: b"",
+        },
+        Attribute::Runs {
+            clusters: 32,
+            size: 32_768,
+            valid: 32_768,
+            pairs: &[0x11, 0x20, 0x04, 0],
+        },
+    ],
+    ..FIRST
+};
+
+#[test]
+fn volumes_without_a_map_are_refused(rt: HostRuntime) -> Result<(), Fail> {
+    let alloc = rt.alloc();
+    let image = Image::of(SMALL_LEN);
+    let words = ["ntfscat", "-i", "16", "v"];
+    let c3 = Case::refused(
+        &words,
+        image,
+        damaged(Rule::C3, 0),
+        4,
+        "ntfscat: damaged: rule C3 record 0\n",
+    );
+    let cases = [
+        c3,
+        c3.over(image.with(&[FREE_FIRST])),
+        c3.over(image.with(&[BLANK_FIRST])),
+        c3.over(image.with(&[HOLE_FIRST])),
+        c3.over(image.with(&[SHORT_FIRST])),
+        c3.over(image.with(&[LISTED_FIRST])),
+    ];
+    let base = bare_volume(alloc).ok_or("no image")?;
+    all_answer(&rt, alloc, &base, &cases)
+}
+
+#[test]
+fn spellings_are_no_numbers(rt: HostRuntime) -> Result<(), Fail> {
+    let alloc = rt.alloc();
+    let refused = Case::refused(
+        &TWENTY,
+        Image::of(SMALL_LEN),
+        NUMBER,
+        1,
+        "ntfscat: usage: number\n",
+    );
+    let cases = [
+        refused.of(&["ntfscat", "-i", "", "v"]),
+        refused.of(&["ntfscat", "-i", "+16", "v"]),
+        refused.of(&["ntfscat", "-i", "-16", "v"]),
+        refused.of(&["ntfscat", "-i", "16 ", "v"]),
+        refused.of(&["ntfscat", "-i", "1_6", "v"]),
+        refused.of(&["ntfscat", "-i", "0x", "v"]),
+    ];
+    let base = small_volume(alloc).ok_or("no image")?;
+    all_answer(&rt, alloc, &base, &cases)
+}
+
+#[test]
+fn long_and_odd_spellings_are_no_numbers(rt: HostRuntime) -> Result<(), Fail> {
+    let alloc = rt.alloc();
+    let refused = Case::refused(
+        &TWENTY,
+        Image::of(SMALL_LEN),
+        NUMBER,
+        1,
+        "ntfscat: usage: number\n",
+    );
+    let cases = [
+        refused.of(&["ntfscat", "-i", "0X10", "v"]),
+        refused.of(&["ntfscat", "-i", "0x+1", "v"]),
+        refused.of(&["ntfscat", "-i", "x10", "v"]),
+        refused.of(&["ntfscat", "-i", "000000000000000000016", "v"]),
+        refused.of(&["ntfscat", "-i", "18446744073709551616", "v"]),
+        refused.of(&["ntfscat", "-i", "0x00000000000000010", "v"]),
+    ];
+    let base = small_volume(alloc).ok_or("no image")?;
+    all_answer(&rt, alloc, &base, &cases)
+}
+
+#[test]
+fn words_of_ntfscat_are_refused(rt: HostRuntime) -> Result<(), Fail> {
+    let line = Case::refused(&TWENTY, Image::of(0), LINE, 1, "ntfscat: usage: line\n");
+    let absent = Case::refused(
+        &TWENTY,
+        Image::of(0),
+        NO_IMAGE,
+        2,
+        "ntfscat: no such file: w\n",
+    );
+    let cases = [
+        line.of(&["ntfscat"]),
+        line.of(&["ntfscat", "-i", "16"]),
+        line.of(&["ntfscat", "-m", "16", "v"]),
+        line.of(&["ntfscat", "-i", "16", "-v"]),
+        line.of(&["ntfscat", "-i", "16", "v", "v"]),
+        absent.of(&["ntfscat", "-i", "16", "w"]),
+    ];
+    all_answer(&rt, rt.alloc(), b"", &cases)
+}

@@ -1,0 +1,123 @@
+//! `ntfsinfo`, and words that name no tool.
+use crate::case::{Case, Image, all_answer};
+use crate::statuses::{LINE, NO_IMAGE, TOOL, bad_geometry, image_short};
+use crate::volume::{BOOT, BOOT_LEN, image_of};
+use ntfs_run::Status;
+use std::test::Fail;
+
+pub const LINES: &[u8] =
+    b"sector size: 512\ncluster size: 4096\nrecord size: 1024\nindex block size: 4096\nsectors: 8192\nclusters: 1024\nmft cluster: 3\nmirror cluster: 12\nserial: 0000000000000000\n";
+
+/// The lines of a volume with seven sectors more, which fill no cluster, and the serial number 1.
+pub const ODD_LINES: &[u8] =
+    b"sector size: 512\ncluster size: 4096\nrecord size: 1024\nindex block size: 4096\nsectors: 8199\nclusters: 1024\nmft cluster: 3\nmirror cluster: 12\nserial: 0000000000000001\n";
+
+pub const INFO: [&str; 3] = ["ntfsinfo", "-m", "v"];
+
+#[test]
+fn geometry_is_printed(rt: HostRuntime) -> Result<(), Fail> {
+    let alloc = rt.alloc();
+    let whole = Image::of(BOOT_LEN);
+    let cases = [
+        Case::done(&INFO, whole, LINES),
+        Case::done(
+            &INFO,
+            whole.damaged(&[(0x28, &[0x07]), (0x48, &[1])]),
+            ODD_LINES,
+        ),
+    ];
+    let base = image_of(alloc, BOOT_LEN, &BOOT).ok_or("no image")?;
+    all_answer(&rt, alloc, &base, &cases)
+}
+
+#[test]
+fn words_are_refused(rt: HostRuntime) -> Result<(), Fail> {
+    let empty = Image::of(0);
+    let tool = Case::refused(&[], empty, TOOL, 1, "ntfsprogs: usage: tool\n");
+    let line = Case::refused(&[], empty, LINE, 1, "ntfsinfo: usage: line\n");
+    let absent = Case::refused(&[], empty, NO_IMAGE, 2, "ntfsinfo: no such file: w\n");
+    let cases = [
+        tool,
+        tool.of(&["ntfsfind", "-m", "v"]),
+        line.of(&["ntfsinfo", "-m"]),
+        line.of(&["ntfsinfo", "-m", "-v"]),
+        line.of(&["ntfsinfo", "m", "v"]),
+        line.of(&["ntfsinfo", "-m", "v", "w"]),
+        absent.of(&["ntfsinfo", "-m", "w"]),
+    ];
+    all_answer(&rt, rt.alloc(), b"", &cases)
+}
+
+#[test]
+fn images_are_refused(rt: HostRuntime) -> Result<(), Fail> {
+    let sector = Image::of(512);
+    let cut = Image::of(4_194_303).damaged(&BOOT);
+    let refused = Case::refused(
+        &INFO,
+        sector,
+        Status::NotNtfs,
+        3,
+        "ntfsinfo: not an NTFS volume\n",
+    );
+    let cases = [
+        refused.over(Image::of(511)).but(
+            image_short(511, 512),
+            "ntfsinfo: image has 511 bytes, needs 512\n",
+        ),
+        refused,
+        refused.over(sector.damaged(&[(3, b"NTFS    ")])).but(
+            bad_geometry(1, 0),
+            "ntfsinfo: bad geometry: field 1 value 0\n",
+        ),
+        refused.over(cut).but(
+            image_short(4_194_303, 4_194_304),
+            "ntfsinfo: image has 4194303 bytes, needs 4194304\n",
+        ),
+    ];
+    all_answer(&rt, rt.alloc(), b"", &cases)
+}
+
+#[test]
+fn each_field_is_refused(rt: HostRuntime) -> Result<(), Fail> {
+    let alloc = rt.alloc();
+    let sector = Image::of(512);
+    let refused = Case::refused(&INFO, sector, Status::NotNtfs, 3, "");
+    let cases = [
+        refused.over(sector.damaged(&[(0x0B, &[0x01])])).but(
+            bad_geometry(1, 513),
+            "ntfsinfo: bad geometry: field 1 value 513\n",
+        ),
+        refused.over(sector.damaged(&[(0x0D, &[3])])).but(
+            bad_geometry(2, 3),
+            "ntfsinfo: bad geometry: field 2 value 3\n",
+        ),
+        refused
+            .over(sector.damaged(&[(0x0B, &[0x00, 0x04, 128])]))
+            .but(
+                bad_geometry(3, 131_072),
+                "ntfsinfo: bad geometry: field 3 value 131072\n",
+            ),
+        refused.over(sector.damaged(&[(0x40, &[0xF7])])).but(
+            bad_geometry(4, 0xF7),
+            "ntfsinfo: bad geometry: field 4 value 247\n",
+        ),
+        refused.over(sector.damaged(&[(0x44, &[0])])).but(
+            bad_geometry(5, 0),
+            "ntfsinfo: bad geometry: field 5 value 0\n",
+        ),
+        refused.over(sector.damaged(&[(0x28, &[7, 0])])).but(
+            bad_geometry(6, 7),
+            "ntfsinfo: bad geometry: field 6 value 7\n",
+        ),
+        refused.over(sector.damaged(&[(0x30, &[0x00, 0x04])])).but(
+            bad_geometry(7, 1024),
+            "ntfsinfo: bad geometry: field 7 value 1024\n",
+        ),
+        refused.over(sector.damaged(&[(0x38, &[0x00, 0x04])])).but(
+            bad_geometry(8, 1024),
+            "ntfsinfo: bad geometry: field 8 value 1024\n",
+        ),
+    ];
+    let base = image_of(alloc, 512, &BOOT).ok_or("no image")?;
+    all_answer(&rt, alloc, &base, &cases)
+}
