@@ -1,13 +1,13 @@
 -- A walk shows the same over the same blocks met, in whatever order they are kept.
-use Rattle.std.proofs.Common.{◌≡◌, ◌-◌, ℕ, zero, suc, Bool, true, false, cond, ltb, not, ◌==◌, ◌||◌, List, [], ◌∷◌, ◌++◌, length, Ok, Err, Some, Result, if◌then◌else◌, refl, sym, ap, ◌∙◌, arith, inl, inr}
+use Rattle.std.proofs.Common.{◌≡◌, ◌-◌, ℕ, zero, suc, Bool, true, false, cond, ltb, not, ◌==◌, ◌||◌, List, [], ◌∷◌, ◌++◌, length, Ok, Err, Result, if◌then◌else◌, refl, sym, ap, ◌∙◌, arith, inl, inr}
 use Rattle.std.specs.List.{list_any}
 use Rattle.std.specs.Ordering.{nat_cmp, is_eq}
 use Rattle.std.specs.declared.cmp.Ordering.TheVariants.{Less, Equal, Greater}
 use Rattle.std.specs.BTreeMap.{is_at}
 use Rattle.std.proofs.lemmas.Bool.{cases_Bool, cond_both, eq-eqb, eqb-false, eqb-true, ltb-true, ne_eqb, not-false, not-true}
 use Rattle.ntfs_index.specs.Blocks.{BlockMap}
-use Rattle.ntfs_index.specs.Node.{IndexEntry, Visit, Child, Own, Damage, visits, block_node}
-use Rattle.ntfs_index.specs.Walk.{Walked, Gave, Whole, Broke, Listing, before, listing, and_then, is_met, walk_visits, walk_node, walk_child}
+use Rattle.ntfs_index.specs.Node.{Visit, Child, Own, Damage, visits, block_node}
+use Rattle.ntfs_index.specs.Walk.{Walked, Gave, Whole, Broke, listing, and_then, is_met, walk_visits, walk_node, walk_child}
 use Rattle.ntfs_index.specs.Path.{SameMet, left_above, left_of_nodes}
 use Rattle.ntfs_index.specs.declared.fault.IndexFault.{IndexFault}
 use Rattle.ntfs_index.specs.declared.fault.IndexFault.TheVariants.{BadNode}
@@ -24,14 +24,19 @@ nat_cmp-is_eq x y =
 -- a set has the VCNs that are met in the list of its keys
 pub contains-is_met : (vcn : ℕ) (keys : List ℕ) → list_any (is_at (nat_cmp vcn)) keys ≡ is_met vcn keys
 contains-is_met vcn [] = refl
-contains-is_met vcn (key ∷ keys) = let first = nat_cmp-is_eq vcn key in let rest = contains-is_met vcn keys in rw (first, rest) refl
+contains-is_met vcn (key ∷ keys) = let first = nat_cmp-is_eq vcn key in let rest = contains-is_met vcn keys in
+    rw (first, rest) refl
 
 -- one that was added anew, and one that was there
-pub insert-new : (vcn : ℕ) (keys : List ℕ) (added : Bool) → added ≡ not (list_any (is_at (nat_cmp vcn)) keys) → added ≡ true → is_met vcn keys ≡ false
-insert-new vcn keys added is new = sym (contains-is_met vcn keys) ∙ not-true (list_any (is_at (nat_cmp vcn)) keys) (sym is ∙ new)
+pub insert-new : (vcn : ℕ) (keys : List ℕ) (added : Bool) → added ≡ not (list_any (is_at (nat_cmp vcn)) keys)
+    → added ≡ true → is_met vcn keys ≡ false
+insert-new vcn keys added is new = sym (contains-is_met vcn keys)
+    ∙ not-true (list_any (is_at (nat_cmp vcn)) keys) (sym is ∙ new)
 
-pub insert-twice : (vcn : ℕ) (keys : List ℕ) (added : Bool) → added ≡ not (list_any (is_at (nat_cmp vcn)) keys) → added ≡ false → is_met vcn keys ≡ true
-insert-twice vcn keys added is twice = sym (contains-is_met vcn keys) ∙ not-false (list_any (is_at (nat_cmp vcn)) keys) (sym is ∙ twice)
+pub insert-twice : (vcn : ℕ) (keys : List ℕ) (added : Bool) → added ≡ not (list_any (is_at (nat_cmp vcn)) keys)
+    → added ≡ false → is_met vcn keys ≡ true
+insert-twice vcn keys added is twice = sym (contains-is_met vcn keys)
+    ∙ not-false (list_any (is_at (nat_cmp vcn)) keys) (sym is ∙ twice)
 
 eqb-sym : (x y : ℕ) → (x == y) ≡ (y == x)
 eqb-sym x y = elim (cases_Bool (x == y)) [
@@ -46,7 +51,9 @@ or-cond false true = refl
 or-cond false false = refl
 
 -- a set to which one was added has met it last
-pub insert-met : (vcn : ℕ) (old new : List ℕ) → ((v : ℕ) → list_any (is_at (nat_cmp v)) new ≡ cond (is_at (nat_cmp vcn) v) true (list_any (is_at (nat_cmp v)) old))
+pub insert-met : (vcn : ℕ) (old new : List ℕ)
+    → ((v : ℕ)
+    → list_any (is_at (nat_cmp v)) new ≡ cond (is_at (nat_cmp vcn) v) true (list_any (is_at (nat_cmp v)) old))
     → SameMet (old ++ vcn ∷ []) new
 insert-met vcn old new updates = record {
   alike = λ v.
@@ -62,7 +69,10 @@ SameMet-refl met = record { alike = λ vcn. refl }
 
 SameMet-more : (vcn : ℕ) (a b : List ℕ) → SameMet a b → SameMet (a ++ vcn ∷ []) (b ++ vcn ∷ [])
 SameMet-more vcn a b same =
-    record { alike = λ v. is_met-append v a (vcn ∷ []) ∙ ap (λ is. is || is_met v (vcn ∷ [])) (same.alike v) ∙ sym (is_met-append v b (vcn ∷ [])) }
+    record {
+      alike = λ v. is_met-append v a (vcn ∷ []) ∙ ap (λ is. is || is_met v (vcn ∷ [])) (same.alike v)
+          ∙ sym (is_met-append v b (vcn ∷ []));
+    }
 
 -- ---- two walks that show the same, and have met the same where they are whole
 
@@ -78,7 +88,8 @@ AreAlike (Broke a f) (Whole b) = ⊥
 AreAlike (Broke a f) (Broke b g) = f ≡ g
 
 pub listing-alike : (v w : Walked) → AreAlike v w → listing v ≡ listing w
-listing-alike (Gave e v) (Gave f w) alike = let first = alike.0 in let rest = listing-alike v w alike.1 in rw (first, rest) refl
+listing-alike (Gave e v) (Gave f w) alike = let first = alike.0 in let rest = listing-alike v w alike.1 in
+    rw (first, rest) refl
 listing-alike (Gave e v) (Whole b) alike = absurd alike
 listing-alike (Gave e v) (Broke b g) alike = absurd alike
 listing-alike (Whole a) (Gave f w) alike = absurd alike
@@ -92,7 +103,8 @@ listing-alike (Broke a f) (Broke b g) alike = rw alike refl
 abbrev GoAlike : (List ℕ → Walked) → Type 0
 GoAlike f = (a b : List ℕ) → SameMet a b → AreAlike (f a) (f b)
 
-and_then-alike : (v w : Walked) (next : List ℕ → Walked) → GoAlike next → AreAlike v w → AreAlike (and_then v next) (and_then w next)
+and_then-alike : (v w : Walked) (next : List ℕ → Walked) → GoAlike next → AreAlike v w
+    → AreAlike (and_then v next) (and_then w next)
 and_then-alike (Gave e v) (Gave f w) next go alike = (alike.0, and_then-alike v w next go alike.1)
 and_then-alike (Gave e v) (Whole b) next go alike = absurd alike
 and_then-alike (Gave e v) (Broke b g) next go alike = absurd alike
@@ -103,18 +115,21 @@ and_then-alike (Broke a f) (Gave g w) next go alike = absurd alike
 and_then-alike (Broke a f) (Whole b) next go alike = absurd alike
 and_then-alike (Broke a f) (Broke b g) next go alike = alike
 
-visits-alike : (enter : List ℕ → ℕ → Walked) → ((vcn : ℕ) → GoAlike (λ met. enter met vcn)) → (visits : List Visit) → GoAlike (walk_visits enter visits)
+visits-alike : (enter : List ℕ → ℕ → Walked) → ((vcn : ℕ) → GoAlike (λ met. enter met vcn)) → (visits : List Visit)
+    → GoAlike (walk_visits enter visits)
 visits-alike enter go [] a b same = same
 visits-alike enter go (Child vcn ∷ rest) a b same =
     and_then-alike (enter a vcn) (enter b vcn) (walk_visits enter rest) (visits-alike enter go rest) (go vcn a b same)
 visits-alike enter go (Own entry ∷ rest) a b same = (refl, visits-alike enter go rest a b same)
 visits-alike enter go (Damage fault ∷ rest) a b same = refl
 
-node-alike : (enter : List ℕ → ℕ → Walked) → ((vcn : ℕ) → GoAlike (λ met. enter met vcn)) → (vcn : ℕ) (node : Result (List ℕ) IndexFault) → GoAlike (λ met. walk_node enter vcn met node)
+node-alike : (enter : List ℕ → ℕ → Walked) → ((vcn : ℕ) → GoAlike (λ met. enter met vcn))
+    → (vcn : ℕ) (node : Result (List ℕ) IndexFault) → GoAlike (λ met. walk_node enter vcn met node)
 node-alike enter go vcn (Ok entries) a b same = visits-alike enter go (visits vcn 0 entries) a b same
 node-alike enter go vcn (Err fault) a b same = refl
 
-entered-alike : (s t : Bool) → s ≡ t → (fault : IndexFault) (a b : List ℕ) (v w : Walked) → AreAlike v w → AreAlike (if s then Broke a fault else v) (if t then Broke b fault else w)
+entered-alike : (s t : Bool) → s ≡ t → (fault : IndexFault) (a b : List ℕ) (v w : Walked) → AreAlike v w
+    → AreAlike (if s then Broke a fault else v) (if t then Broke b fault else w)
 entered-alike true true same fault a b v w alike = refl
 entered-alike true false same fault a b v w alike = cc
 entered-alike false true same fault a b v w alike = cc
@@ -126,18 +141,23 @@ child-alike blocks (suc levels) vcn a b same =
     entered-alike (is_met vcn a) (is_met vcn b) (same.alike vcn) (BadNode vcn 6) a b
     (walk_node (walk_child blocks levels) vcn (a ++ vcn ∷ []) (block_node blocks vcn))
     (walk_node (walk_child blocks levels) vcn (b ++ vcn ∷ []) (block_node blocks vcn))
-    (node-alike (walk_child blocks levels) (child-alike blocks levels) vcn (block_node blocks vcn) (a ++ vcn ∷ []) (b ++ vcn ∷ []) (SameMet-more vcn a b same))
+    (node-alike (walk_child blocks levels) (child-alike blocks levels) vcn (block_node blocks vcn) (a ++ vcn ∷ [])
+    (b ++ vcn ∷ []) (SameMet-more vcn a b same))
 
 above-alike : (blocks : BlockMap) (levels : ℕ) (above : List (List Visit)) → GoAlike (left_above blocks levels above)
 above-alike blocks levels [] a b same = same
 above-alike blocks levels (node ∷ above) a b same =
-    and_then-alike (left_above blocks (levels - 1) above a) (left_above blocks (levels - 1) above b) (walk_visits (walk_child blocks levels) node)
-    (visits-alike (walk_child blocks levels) (child-alike blocks levels) node) (above-alike blocks (levels - 1) above a b same)
+    and_then-alike (left_above blocks (levels - 1) above a) (left_above blocks (levels - 1) above b)
+    (walk_visits (walk_child blocks levels) node)
+    (visits-alike (walk_child blocks levels) (child-alike blocks levels) node)
+    (above-alike blocks (levels - 1) above a b same)
 
 -- what is left of nodes shows the same over the same blocks met
 pub nodes-alike : (blocks : BlockMap) (present : List Visit) (above : List (List Visit)) (a b : List ℕ) → SameMet a b
     → listing (left_of_nodes blocks present above a) ≡ listing (left_of_nodes blocks present above b)
 nodes-alike blocks present above a b same =
     listing-alike (left_of_nodes blocks present above a) (left_of_nodes blocks present above b)
-    (and_then-alike (walk_visits (walk_child blocks (15 - length above)) present a) (walk_visits (walk_child blocks (15 - length above)) present b) (left_above blocks 15 above)
-    (above-alike blocks 15 above) (visits-alike (walk_child blocks (15 - length above)) (child-alike blocks (15 - length above)) present a b same))
+    (and_then-alike (walk_visits (walk_child blocks (15 - length above)) present a)
+    (walk_visits (walk_child blocks (15 - length above)) present b) (left_above blocks 15 above)
+    (above-alike blocks 15 above) (visits-alike (walk_child blocks (15 - length above))
+    (child-alike blocks (15 - length above)) present a b same))

@@ -20,13 +20,16 @@ pub record IsSoundEntry (entry : List ℕ) : Type 0 where
 -- what is left of a node at an entry, whose child has been entered or not
 abbrev pub visits_left : ℕ → Bool → List ℕ → List Visit
 visits_left vcn entered entry =
-    (if entered then visits_behind_child else visits_at) vcn entry (visits vcn 0 (drop (entry_length entry) entry)) (broken_rule entry)
+    (if entered then visits_behind_child else visits_at)
+    vcn entry (visits vcn 0 (drop (entry_length entry) entry)) (broken_rule entry)
 
 -- what is met first at an entry of the node of a VCN, and what is left behind it
 abbrev pub IsStep : ℕ → Bool → List ℕ → Step → Type 0
-IsStep vcn entered entry (step.Child child) = (entered ≡ false) × (visits_left vcn false entry ≡ Child child ∷ visits_left vcn true entry)
+IsStep vcn entered entry (step.Child child) =
+    (entered ≡ false) × (visits_left vcn false entry ≡ Child child ∷ visits_left vcn true entry)
 IsStep vcn entered entry (step.Own reference len) =
     (0x10 + key_length entry ≤ length entry) × (len ≤ length entry)
-    × (visits_left vcn entered entry ≡ Own (record { reference = reference; key = key_of entry }) ∷ visits_left vcn false (drop len entry))
+    × (visits_left vcn entered entry
+    ≡ Own (record { reference = reference; key = key_of entry }) ∷ visits_left vcn false (drop len entry))
 IsStep vcn entered entry (step.Damage rule) = visits_left vcn entered entry ≡ Damage (BadNode vcn rule) ∷ []
 IsStep vcn entered entry step.End = visits_left vcn entered entry ≡ []

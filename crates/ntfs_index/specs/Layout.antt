@@ -1,6 +1,6 @@
--- The fields of an index, under the names of the public layout, with their places in bytes and their units (the Linux-NTFS
--- documentation, "$INDEX_ROOT", "Index Header" and "Index Record"; an entry under "Directory"). A field whose bytes end too
--- early reads as if zeros followed.
+-- The fields of an index, under the names of the public layout, with their places in bytes and their units (the
+-- Linux-NTFS documentation, "$INDEX_ROOT", "Index Header" and "Index Record"; an entry under "Directory"). A field
+-- whose bytes end too early reads as if zeros followed.
 use Rattle.std.specs.Prelude.{◌+◌, ◌-◌, ℕ, List}
 use Rattle.ntfs_base.specs.Bytes.{number_at}
 
@@ -22,8 +22,8 @@ index_block_size root = number_at 4 0x08 root
 abbrev pub root_header : ℕ
 root_header = 0x10
 
--- ---- INDEX_BLOCK, a block of $INDEX_ALLOCATION, by its unfixed bytes: magic, 4 bytes at 0x00, usa_ofs and usa_count, 2 bytes
--- each at 0x04 and 0x06, are those of fixups; lsn has 8 bytes at 0x08
+-- ---- INDEX_BLOCK, a block of $INDEX_ALLOCATION, by its unfixed bytes: magic, 4 bytes at 0x00, usa_ofs and usa_count,
+-- 2 bytes each at 0x04 and 0x06, are those of fixups; lsn has 8 bytes at 0x08
 
 -- index_block_vcn, 8 bytes at 0x10, in units of `Blocks.vcn_unit`: the block's own VCN
 abbrev pub index_block_vcn : List ℕ → ℕ
@@ -33,8 +33,8 @@ index_block_vcn block = number_at 8 0x10 block
 abbrev pub block_header : ℕ
 block_header = 0x18
 
--- ---- INDEX_HEADER, by the bytes of the root or block and its place in them: allocated_size, 4 bytes at 0x08, and flags, 1 byte at
--- 0x0C, play no part in a walk
+-- ---- INDEX_HEADER, by the bytes of the root or block and its place in them: allocated_size, 4 bytes at 0x08, and
+-- flags, 1 byte at 0x0C, play no part in a walk
 
 -- entries_offset, 4 bytes at 0x00, in bytes from the header on: where the first entry begins
 abbrev pub entries_offset : ℕ → List ℕ → ℕ

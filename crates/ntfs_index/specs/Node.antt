@@ -1,6 +1,7 @@
--- What is met in the bytes of one node of an index: the first of the two steps of a walk. The rules of entries, 4 and 5, are settled
--- here (the Linux-NTFS documentation, "Index Record" and "Directory"; the numbers of the rules and the words are ours).
-use Rattle.std.specs.Prelude.{◌+◌, ◌-◌, ◌*◌, ◌%◌, ◌==◌, ◌&&◌, ℕ, zero, suc, Bool, true, false, not, List, [], ◌∷◌, ◌++◌, length, take, drop, Option, Some, None, Result, Ok, Err, nat_le, if◌then◌else◌, bit_and}
+-- What is met in the bytes of one node of an index: the first of the two steps of a walk. The rules of entries, 4 and
+-- 5, are settled here (the Linux-NTFS documentation, "Index Record" and "Directory"; the numbers of the rules and the
+-- words are ours).
+use Rattle.std.specs.Prelude.{◌+◌, ◌-◌, ◌*◌, ◌%◌, ◌==◌, ◌&&◌, ℕ, zero, suc, Bool, not, List, [], ◌∷◌, ◌++◌, length, take, drop, Option, Some, None, Result, Ok, Err, nat_le, if◌then◌else◌, bit_and}
 use Rattle.ntfs_base.specs.Bytes.{piece_at}
 use Rattle.ntfs_fixup.specs.Fixups.{unfixed}
 use Rattle.ntfs_fixup.specs.declared.header.Magic.TheVariants.{Indx}
@@ -47,8 +48,8 @@ unfoldable pub has_right_length : List ℕ → Bool
 has_right_length entry =
     nat_le 16 (entry_length entry) && (entry_length entry % 8 == 0) && nat_le (entry_length entry) (length entry)
 
--- rule 5 of an entry with a key: the fields, the key and the child's VCN are within the entry, and a $FILE_NAME with its name
--- within the key
+-- rule 5 of an entry with a key: the fields, the key and the child's VCN are within the entry, and a $FILE_NAME with
+-- its name within the key
 unfoldable pub has_right_key : List ℕ → Bool
 has_right_key entry =
     nat_le (0x10 + key_length entry + child_length entry) (entry_length entry)
@@ -73,7 +74,8 @@ visit_child (Some vcn) = Child vcn ∷ []
 
 -- the entry itself and what follows; nothing where it ends the node
 abbrev pub own_visits : List ℕ → List Visit → List Visit
-own_visits entry rest = if ends_node entry then [] else Own (record { reference = indexed_file entry; key = key_of entry }) ∷ rest
+own_visits entry rest =
+    if ends_node entry then [] else Own (record { reference = indexed_file entry; key = key_of entry }) ∷ rest
 
 -- at an entry whose child has been met already
 abbrev pub visits_behind_child : ℕ → List ℕ → List Visit → Option ℕ → List Visit
@@ -85,8 +87,8 @@ abbrev pub visits_at : ℕ → List ℕ → List Visit → Option ℕ → List V
 visits_at vcn entry rest (Some rule) = Damage (BadNode vcn rule) ∷ []
 visits_at vcn entry rest None = visit_child (child_of entry) ++ own_visits entry rest
 
--- what is met in the node of this VCN, in the bytes of its entries that are in use, behind so many bytes of an entry that was met.
--- Where they end without an entry that ends the node, rule 4 is broken.
+-- what is met in the node of this VCN, in the bytes of its entries that are in use, behind so many bytes of an entry
+-- that was met. Where they end without an entry that ends the node, rule 4 is broken.
 abbrev pub visits : ℕ → ℕ → List ℕ → List Visit
 visits vcn skip [] = Damage (BadNode vcn 4) ∷ []
 visits vcn (suc skip) (byte ∷ bytes) = visits vcn skip bytes
@@ -95,8 +97,8 @@ visits vcn zero (byte ∷ bytes) =
 
 -- ---- the entries in use of a root and of a block: rules 1, 2, 3
 
--- rule 3: the first entry lies at least 16 bytes behind the header's begin, at a multiple of 8, not behind the end of those in use,
--- which are within the node
+-- rule 3: the first entry lies at least 16 bytes behind the header's begin, at a multiple of 8, not behind the end of
+-- those in use, which are within the node
 unfoldable pub has_right_header : ℕ → List ℕ → Bool
 has_right_header header bytes =
     nat_le 16 (entries_offset header bytes)
@@ -109,14 +111,15 @@ unfoldable pub entries_in : ℕ → List ℕ → List ℕ
 entries_in header bytes = drop (header + entries_offset header bytes) (take (header + index_length header bytes) bytes)
 
 abbrev pub entries_at : ℕ → ℕ → List ℕ → Result (List ℕ) IndexFault
-entries_at vcn header bytes = if has_right_header header bytes then Ok (entries_in header bytes) else Err (BadNode vcn 3)
+entries_at vcn header bytes =
+    if has_right_header header bytes then Ok (entries_in header bytes) else Err (BadNode vcn 3)
 
 -- the root's VCN in a fault, the greatest number of 64 bits
 abbrev pub root_vcn : ℕ
 root_vcn = 18446744073709551615
 
--- rule 1 of a root: it has 32 bytes at least, its keys are attributes of type 0x30, $FILE_NAME, in the order of rule 1, that of
--- file names, and its blocks have the volume's size
+-- rule 1 of a root: it has 32 bytes at least, its keys are attributes of type 0x30, $FILE_NAME, in the order of rule 1,
+-- that of file names, and its blocks have the volume's size
 unfoldable pub is_root : ℕ → List ℕ → Bool
 is_root size root =
     nat_le 32 (length root) && (root_type root == 0x30) && (collation_rule root == 1) && (index_block_size root == size)
@@ -127,7 +130,8 @@ root_node size root = if is_root size root then entries_at root_vcn root_header 
 
 -- of a block that was unfixed, or wasn't: rules 1, 2, 3
 abbrev pub unfixed_node : ℕ → Result (List ℕ) FixFault → Result (List ℕ) IndexFault
-unfixed_node vcn (Ok block) = if index_block_vcn block == vcn then entries_at vcn block_header block else Err (BadNode vcn 2)
+unfixed_node vcn (Ok block) =
+    if index_block_vcn block == vcn then entries_at vcn block_header block else Err (BadNode vcn 2)
 unfixed_node vcn (Err fault) = Err (BadNode vcn 1)
 
 -- of a block as it stands in the allocation, where it is there: rule 7, then the others

@@ -1,8 +1,9 @@
--- Open nodes, and the path of them from the root on: what each has left, and what is left of the walk. The words are ours.
-use Rattle.std.specs.Prelude.{◌≡◌, ◌+◌, ◌-◌, ◌<◌, ◌≤◌, ◌++◌, ℕ, Bool, true, false, List, [], ◌∷◌, length, drop, map, Result, Ok, Err, Some, None, if◌then◌else◌}
+-- Open nodes, and the path of them from the root on: what each has left, and what is left of the walk. The words are
+-- ours.
+use Rattle.std.specs.Prelude.{◌≡◌, ◌+◌, ◌-◌, ◌<◌, ◌≤◌, ◌++◌, ℕ, true, false, List, [], ◌∷◌, length, drop, map, Result, Ok, Err, Some, None, if◌then◌else◌}
 use Rattle.ntfs_base.specs.Frames.{IsSettled}
 use Rattle.ntfs_index.specs.Blocks.{BlockMap}
-use Rattle.ntfs_index.specs.Node.{IndexEntry, Visit, block_node}
+use Rattle.ntfs_index.specs.Node.{Visit, block_node}
 use Rattle.ntfs_index.specs.Entry.{visits_left}
 use Rattle.ntfs_index.specs.Fetches.{index_origin}
 use Rattle.ntfs_index.specs.Walk.{Walked, Whole, Listing, before, listing, and_then, is_met, walk_visits, walk_child}
@@ -45,7 +46,8 @@ left_of_nodes blocks present above met =
     and_then (walk_visits (walk_child blocks (15 - length above)) present met) (left_above blocks 15 above)
 
 abbrev pub left_of_path : BlockMap → Path → Listing
-left_of_path blocks path = listing (left_of_nodes blocks (left_in path.present) (map left_in path.above.items) path.met.keys)
+left_of_path blocks path =
+    listing (left_of_nodes blocks (left_in path.present) (map left_in path.above.items) path.met.keys)
 
 -- ---- one path
 
@@ -107,7 +109,8 @@ only_fault fault = record { entries = []; fault = Some fault }
 abbrev pub IsEntered : BlockMap → ℕ → Path → Result (Unit {0}) IndexFault → Path → Type 0
 IsEntered blocks vcn old (Ok done) new = IsIn blocks vcn old new
 IsEntered blocks vcn old (Err fault) new =
-    IsSettled (index_origin fault) → listing (walk_child blocks (15 - length old.above.items) old.met.keys vcn) ≡ only_fault fault
+    IsSettled (index_origin fault)
+    → listing (walk_child blocks (15 - length old.above.items) old.met.keys vcn) ≡ only_fault fault
 
 -- what a turn of a walk over these blocks has done, with the key that it shows then
 abbrev pub IsTurn : BlockMap → Path → Result Turn IndexFault → Path → List ℕ → Type 0
@@ -127,6 +130,7 @@ KeepsKey (Err fault) old new = new ≡ old
 -- the path has moved: fewer turns and fewer blocks are left
 abbrev pub HasMoved : Result Turn IndexFault → Path → Path → ℕ → ℕ → Type 0
 HasMoved (Ok (turn.Gave reference)) old new before after = Unit {0}
-HasMoved (Ok turn.Moved) old new before after = (turns_left new < turns_left old) × (after + asks_left new ≤ before + asks_left old)
+HasMoved (Ok turn.Moved) old new before after =
+    (turns_left new < turns_left old) × (after + asks_left new ≤ before + asks_left old)
 HasMoved (Ok turn.Ended) old new before after = Unit {0}
 HasMoved (Err fault) old new before after = Unit {0}

@@ -1,5 +1,5 @@
--- A walk as contracts see it: what it has left over each map of blocks, the last key, and the fault that it has answered. The
--- words are ours.
+-- A walk as contracts see it: what it has left over each map of blocks, the last key, and the fault that it has
+-- answered. The words are ours.
 use Rattle.std.specs.Prelude.{◌≡◌, ℕ, List, [], Option, Some, None, Result, Ok, Err}
 use Rattle.ntfs_base.specs.Frames.{IsSettled}
 use Rattle.ntfs_index.specs.Blocks.{BlockMap}
@@ -34,8 +34,8 @@ pub record IsBegun (size : ℕ) (state : WalkState) : Type 0 where
   pub shows : state.key ≡ []
   pub sound : state.fault ≡ None
 
--- an answer by what was left before and what is left then, with the key that is shown then: the next entry; nothing, where the
--- walk is whole; else the fault that comes next
+-- an answer by what was left before and what is left then, with the key that is shown then: the next entry; nothing,
+-- where the walk is whole; else the fault that comes next
 abbrev pub IsNext : Listing → Result (Option Entry) IndexFault → Listing → List ℕ → Type 0
 IsNext old (Ok (Some entry)) new key = old ≡ before (record { reference = entry.reference; key = key }) new
 IsNext old (Ok None) new key = (old ≡ nothing) × (new ≡ nothing)

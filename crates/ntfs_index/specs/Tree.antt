@@ -1,6 +1,6 @@
--- What an index is: a root and blocks that form a tree without damage, in which no block stands twice. Its entries are those of the
--- tree in order. Three plain recursions, in which no walk is. (The Linux-NTFS documentation, "B*Trees" and "Directory"; the words
--- are ours.)
+-- What an index is: a root and blocks that form a tree without damage, in which no block stands twice. Its entries are
+-- those of the tree in order. Three plain recursions, in which no walk is. (The Linux-NTFS documentation, "B*Trees" and
+-- "Directory"; the words are ours.)
 use Rattle.std.specs.Prelude.{◌≡◌, ◌++◌, ℕ, zero, suc, false, List, [], ◌∷◌, Result, Ok, Err}
 use Rattle.ntfs_index.specs.Blocks.{BlockMap}
 use Rattle.ntfs_index.specs.Node.{IndexEntry, Visit, Child, Own, Damage, visits, root_node, root_vcn, block_node}
@@ -23,7 +23,8 @@ entries_among below (Damage fault ∷ rest) = []
 -- those of the block of a VCN and of its children, down to so many levels
 abbrev pub entries_below : BlockMap → ℕ → ℕ → List IndexEntry
 entries_below blocks zero vcn = []
-entries_below blocks (suc levels) vcn = entries_among (entries_below blocks levels) (visits_in vcn (block_node blocks vcn))
+entries_below blocks (suc levels) vcn =
+    entries_among (entries_below blocks levels) (visits_in vcn (block_node blocks vcn))
 
 unfoldable pub index_entries : ℕ → List ℕ → BlockMap → List IndexEntry
 index_entries size root blocks = entries_among (entries_below blocks 15) (visits_in root_vcn (root_node size root))
@@ -38,7 +39,8 @@ blocks_among below (Damage fault ∷ rest) = []
 
 abbrev pub blocks_below : BlockMap → ℕ → ℕ → List ℕ
 blocks_below blocks zero vcn = []
-blocks_below blocks (suc levels) vcn = vcn ∷ blocks_among (blocks_below blocks levels) (visits_in vcn (block_node blocks vcn))
+blocks_below blocks (suc levels) vcn =
+    vcn ∷ blocks_among (blocks_below blocks levels) (visits_in vcn (block_node blocks vcn))
 
 unfoldable pub index_blocks : ℕ → List ℕ → BlockMap → List ℕ
 index_blocks size root blocks = blocks_among (blocks_below blocks 15) (visits_in root_vcn (root_node size root))

@@ -1,8 +1,8 @@
--- The walk of an index: the entries of its tree of nodes in order, and whether it was whole or met a fault. The second of two
--- steps, over what is met in each node (`Node`). On entering a node the depth comes first, then rules 6, 7, 1, 2, 3; at an entry
--- rules 4 and 5, its child, and then itself; the child of the entry that ends a node comes last (the Linux-NTFS documentation,
--- "B*Trees" and "Directory"; rules and words are ours). A walk depends on the root's bytes, the blocks and their size, and on
--- nothing else.
+-- The walk of an index: the entries of its tree of nodes in order, and whether it was whole or met a fault. The second
+-- of two steps, over what is met in each node (`Node`). On entering a node the depth comes first, then rules 6, 7, 1,
+-- 2, 3; at an entry rules 4 and 5, its child, and then itself; the child of the entry that ends a node comes last (the
+-- Linux-NTFS documentation, "B*Trees" and "Directory"; rules and words are ours). A walk depends on the root's bytes,
+-- the blocks and their size, and on nothing else.
 use Rattle.std.specs.Prelude.{◌==◌, ◌++◌, ℕ, zero, suc, Bool, List, [], ◌∷◌, Option, Some, None, Result, Ok, Err, if◌then◌else◌}
 use Rattle.std.specs.List.{list_any}
 use Rattle.ntfs_index.specs.Blocks.{BlockMap, allocation_blocks}
@@ -10,7 +10,8 @@ use Rattle.ntfs_index.specs.Node.{IndexEntry, Visit, Child, Own, Damage, visits,
 use Rattle.ntfs_index.specs.declared.fault.IndexFault.{IndexFault}
 use Rattle.ntfs_index.specs.declared.fault.IndexFault.TheVariants.{BadNode, TooDeep}
 
--- a walk: an entry and what follows it; or its end, whole or by a fault, with the VCNs of the blocks that it met, in order
+-- a walk: an entry and what follows it; or its end, whole or by a fault, with the VCNs of the blocks that it met, in
+-- order
 pub data Walked : Type 0 where
   Gave : IndexEntry → Walked → Walked
   Whole : List ℕ → Walked

@@ -15,7 +15,8 @@ pub trait Blocks {
     /// How often a block was asked for, where that is counted; elsewhere always 0.
     ghost asked: { Self → ℕ };
 
-    /// Fetches the block of a VCN, as it stands in the allocation, with its fixups. After a fault the slice holds anything.
+    /// Fetches the block of a VCN, as it stands in the allocation, with its fixups. After a fault the slice holds
+    /// anything.
     fn block(&mut self, vcn: u64, into: &mut [u8]) -> Result<(), BlockFault>
         requires { length into.old ≡ (seen self.old).size }
         ensures gives { OnOk result (IsTrue (seen self.old).is_told → (seen self.old).blocks vcn ≡ Some into.new) }

@@ -124,7 +124,7 @@ pub(crate) enum Step {
 }
 
 /// What a walk meets first at an entry, whose child has been entered or not.
-#[tactic(auto, unfolding(crate::specs::Node::child_length), using(crate::proofs::NodeLemmas::step_child, crate::proofs::NodeLemmas::step_end, crate::proofs::NodeLemmas::step_own))]
+#[tactic(auto, unfolding(crate::specs::Node::child_length), using(crate::proofs::NodeLemmas::steps))]
 pub(crate) fn step_of(entry: &[u8], entered: bool) -> Step
     ensures { (vcn : ℕ) → IsStep vcn entered entry.now result }
 {

@@ -14,10 +14,10 @@ pub enum BlockFault {
 pub enum IndexFault {
     /// The first rule that the node of this VCN breaks; the root has the VCN 2^64 - 1.
     ///
-    /// 1: the block doesn't unfix as `INDX`, or the root is shorter than 32 bytes or isn't of type 0x30, collation 1 and
-    /// the volume's block size. 2: a block's own VCN differs. 3: the first entry's place or the bytes in use don't fit.
-    /// 4: an entry's length doesn't fit, or no entry ends the node. 5: a key, its name or a child's VCN doesn't fit.
-    /// 6: a block is met a second time. 7: it lies outside the allocation.
+    /// 1: the block doesn't unfix as `INDX`, or the root is shorter than 32 bytes or isn't of type 0x30, collation 1
+    /// and the volume's block size. 2: a block's own VCN differs. 3: the first entry's place or the bytes in use don't
+    /// fit. 4: an entry's length doesn't fit, or no entry ends the node. 5: a key, its name or a child's VCN doesn't
+    /// fit. 6: a block is met a second time. 7: it lies outside the allocation.
     BadNode { vcn: u64, rule: u8 },
     /// There is a 17th level.
     TooDeep,

@@ -13,8 +13,8 @@ pub fn walk_depends_on_blocks_met(root: &[u8], size: u32)
         walk size root.now b ≡ walk size root.now a }
 {}
 
-/// The walk of an index in an allocation depends on the blocks of it that it met: other bytes of the allocation may be any,
-/// and it may be longer.
+/// The walk of an index in an allocation depends on the blocks of it that it met: other bytes of the allocation may be
+/// any, and it may be longer.
 pub fn walk_of_an_allocation_depends_on_blocks_met(root: &[u8], cluster: u32, size: u32)
     ensures { (a b : List ℕ) →
         AgreeOnMet (allocation_blocks cluster size a) (allocation_blocks cluster size b)

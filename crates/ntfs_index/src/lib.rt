@@ -1,4 +1,5 @@
-//! The walk of a directory's index: the entries of its tree of nodes, in order, over blocks that are fetched one by one.
+//! The walk of a directory's index: the entries of its tree of nodes, in order, over blocks that are fetched one by
+//! one.
 #![tactic(auto)]
 
 mod allocation;

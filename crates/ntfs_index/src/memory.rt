@@ -61,7 +61,8 @@ impl Blocks for MemBlocks {
 
     fn block(&mut self, vcn: u64, into: &mut [u8]) -> Result<(), BlockFault>
         requires { length into.old ≡ self.old.size }
-        ensures gives { OnOk result (IsTrue (seen_blocks self.old).is_told → (seen_blocks self.old).blocks vcn ≡ Some into.new) }
+        ensures gives { OnOk result (IsTrue (seen_blocks self.old).is_told →
+            (seen_blocks self.old).blocks vcn ≡ Some into.new) }
         ensures outside { IsTrue (seen_blocks self.old).is_told →
             (result ≡ Err BlockFault.Outside) ↔ ((seen_blocks self.old).blocks vcn ≡ None) }
         ensures cause { result ≡ Err BlockFault.Failed → Rose self.old.faults self.new.faults }

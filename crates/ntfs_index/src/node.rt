@@ -1,4 +1,5 @@
-//! Open nodes: the root and the blocks that a walk is in, each with the bytes of its entries and how far the walk has come.
+//! Open nodes: the root and the blocks that a walk is in, each with the bytes of its entries and how far the walk has
+//! come.
 
 ghost use Rattle.std.specs.Prelude.{◌≡◌, ◌+◌, ◌≤◌, true, length, vec_len, IfOk, MatchResult};
 ghost use Rattle.ntfs_base.specs.Frames.{Gives, IsJudged};

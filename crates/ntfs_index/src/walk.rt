@@ -20,7 +20,8 @@ use std::alloc::Global;
 use std::collections::BTreeSet;
 use std::marker::Model;
 
-/// A walk of an index, from its root on. It holds the open nodes, 16 at most, and the VCNs of the blocks that it has met.
+/// A walk of an index, from its root on. It holds the open nodes, 16 at most, and the VCNs of the blocks that it has
+/// met.
 #[derive(Drop)]
 pub struct Walk {
     alloc: Global,
@@ -88,7 +89,8 @@ fn advance<B: Blocks>(
     requires path { IsPath path.old }
     requires size { IsBlockSize size }
     requires blocks { (B.seen blocks.old).size ≡ size }
-    ensures told { IfBlocks B.Blocks blocks.old (λ map. IsNext (left_of_path map path.old) result (left_of_path map path.new) key.new.items) }
+    ensures told { IfBlocks B.Blocks blocks.old (λ map.
+        IsNext (left_of_path map path.old) result (left_of_path map path.new) key.new.items) }
     ensures path { IsPath path.new }
     ensures key { ShowsKey result key.old.items key.new.items }
     ensures once { B.asked blocks.new + length path.old.met.keys ≤ B.asked blocks.old + length path.new.met.keys }
@@ -106,8 +108,8 @@ fn advance<B: Blocks>(
 impl Walk {
     /// The next entry, or `None` where the walk is whole. After a fault it answers that fault again.
     ///
-    /// What it gives is the walk where all calls had blocks with one and the same map. It asks for 15 blocks at most, and
-    /// for no block twice.
+    /// What it gives is the walk where all calls had blocks with one and the same map. It asks for 15 blocks at most,
+    /// and for no block twice.
     pub fn next<B: Blocks>(&mut self, blocks: &mut B) -> Result<Option<Entry>, IndexFault>
         requires { (B.seen blocks.old).size ≡ self.old.size }
         ensures told { self.old.fault ≡ None → IfBlocks B.Blocks blocks.old (λ map.

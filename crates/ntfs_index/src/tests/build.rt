@@ -86,8 +86,8 @@ pub fn geometry(cluster: u32, block: u32) -> Geometry
     }
 }
 
-/// An entry with a key of this length, whose name has `units` units: the fields, the key, and the child's VCN at a multiple
-/// of 8. The key begins with the reference, and is filled with its lowest byte.
+/// An entry with a key of this length, whose name has `units` units: the fields, the key, and the child's VCN at a
+/// multiple of 8. The key begins with the reference, and is filled with its lowest byte.
 pub fn entry(alloc: Global, row: &Row, key: u16, units: u8) -> Result<Vec<u8>, AllocError> {
     let (ends, key) = if row.entry == NONE {
         (2u8, 0)
@@ -241,8 +241,8 @@ fn patch(bytes: &mut [u8], patches: &[Patch], node: u64) {
     }
 }
 
-/// What a walk gives, as text: each entry's reference, and the end, each with the number of blocks that were asked for by
-/// then behind a dot. The end must come again without another block asked for.
+/// What a walk gives, as text: each entry's reference, and the end, each with the number of blocks that were asked for
+/// by then behind a dot. The end must come again without another block asked for.
 pub fn told(
     alloc: Global,
     root: &[u8],

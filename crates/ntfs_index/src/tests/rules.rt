@@ -1,7 +1,8 @@
-//! One small tree with each rule broken: a root with the entries 1 and 3 and two children, the blocks 0 and 1 with the entries 2 and 4.
+//! One small tree with each rule broken: a root with the entries 1 and 3 and two children, the blocks 0 and 1 with the
+//! entries 2 and 4.
 //!
-//! In the root, entry 1 stands at 0x20, entry 3 at 0x78, the end at 0xD8, and the bytes in use end at 0xF0. In a block its entry
-//! stands at 0x30, the end at 0x88, and the bytes in use end at 0x98.
+//! In the root, entry 1 stands at 0x20, entry 3 at 0x78, the end at 0xD8, and the bytes in use end at 0xF0. In a block
+//! its entry stands at 0x30, the end at 0x88, and the bytes in use end at 0x98.
 
 use super::build::{Patch, ROOT, Row, above, end, end_above, geometry, own, told, tree};
 use std::alloc::Global;

@@ -68,8 +68,8 @@ fn trees_are_walked_in_order(rt: HostRuntime) -> Result<(), Fail> {
     Ok(())
 }
 
-/// A root with the entry 1, and so many blocks below it, each the child of the one before, the last with the entry 9 and a
-/// child of its own, where that isn't `NONE`.
+/// A root with the entry 1, and so many blocks below it, each the child of the one before, the last with the entry 9
+/// and a child of its own, where that isn't `NONE`.
 fn chain(alloc: Global, blocks: u64, child: u64) -> Result<Vec<Row>, AllocError> {
     let mut rows = Vec::new(alloc);
     rows.push(own(ROOT, 1))?;

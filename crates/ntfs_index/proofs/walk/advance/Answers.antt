@@ -10,7 +10,8 @@ turns-preserved g c =
     let shown = rw c.in-Moved.is at turned.key in
     record {
       path = turned.path;
-      left = blocks_still g.B.Blocks c.turns.blocks c.take_turn.new.blocks (λ map. left_of_path map c.args.path.now ≡ left_of_path map c.take_turn.new.self) turned.fetches.seen
+      left = blocks_still g.B.Blocks c.turns.blocks c.take_turn.new.blocks (λ map. left_of_path map c.args.path.now
+          ≡ left_of_path map c.take_turn.new.self) turned.fetches.seen
           (λ told. c.turns.invariant.left told ∙ (rw c.in-Moved.is at (turned.told told)));
       seen = turned.fetches.seen ∙ c.turns.invariant.seen;
       faults = omega (arith, turned.fetches.counts, c.turns.invariant.faults);

@@ -10,7 +10,8 @@ invariant-turns g l = record {
   seen : g.B.Blocks.seen l.blocks ≡ g.B.Blocks.seen l.initial.blocks;
   faults : g.B.Blocks.faults l.initial.blocks ≤ g.B.Blocks.faults l.blocks;
   asks : g.B.Blocks.asked l.blocks + asks_left l.path ≤ g.B.Blocks.asked l.initial.blocks + asks_left l.initial.path;
-  once : g.B.Blocks.asked l.blocks + length l.initial.path.met.keys ≤ g.B.Blocks.asked l.initial.blocks + length l.path.met.keys;
+  once : g.B.Blocks.asked l.blocks + length l.initial.path.met.keys
+      ≤ g.B.Blocks.asked l.initial.blocks + length l.path.met.keys;
   key : l.key.items ≡ l.initial.key.items;
 }
 

@@ -1,7 +1,6 @@
-use Rattle.std.proofs.Common.{◌<◌, ◌-◌, ◌∙◌, length, refl, ap, subst, sym, arith, length-append}
+use Rattle.std.proofs.Common.{◌<◌, ◌-◌, length, refl, ap, arith}
 use Rattle.std.proofs.lemmas.Result.{err_from_is_err_and}
 use Rattle.ntfs_index.specs.Walk.{listing}
-use Rattle.ntfs_index.specs.Path.{AreEntered}
 use Rattle.ntfs_index.proofs.AlikeLemmas.{insert-met, insert-new, insert-twice}
 use Rattle.ntfs_index.proofs.PathLemmas.{AreEntered-more, child-broken, child-twice}
 use Rattle.ntfs_index.proofs.path.Path.enter.Goals as goal
@@ -10,25 +9,30 @@ pub returns-then-not-branch-clause-told : goal.returns-then-not-branch-clause-to
 returns-then-not-branch-clause-told g c told settled =
     let old = c.args.self.now in
     let some : 0 < 15 - length old.above.items = omega arith in
-    let twice = insert-twice c.args.vcn old.met.keys c.in_ok-insert.field-0 c.in_ok-insert.ensures.added c.if-not-branch.true in
-    ap listing (child-twice (g.B.Blocks.seen c.args.blocks.now).blocks (15 - length old.above.items) c.args.vcn old.met.keys some twice)
+    let twice =
+    insert-twice c.args.vcn old.met.keys c.in_ok-insert.field-0 c.in_ok-insert.ensures.added c.if-not-branch.true in
+    ap listing (child-twice (g.B.Blocks.seen c.args.blocks.now).blocks (15 - length old.above.items)
+    c.args.vcn old.met.keys some twice)
 
 pub returns-in_err-child-clause-told : goal.returns-in_err-child-clause-told
 returns-in_err-child-clause-told g c told =
     let old = c.args.self.now in
     let some : 0 < 15 - length old.above.items = omega arith in
-    let new = insert-new c.args.vcn old.met.keys c.in_ok-insert.field-0 c.in_ok-insert.ensures.added c.if-not-branch.false in
+    let new =
+    insert-new c.args.vcn old.met.keys c.in_ok-insert.field-0 c.in_ok-insert.ensures.added c.if-not-branch.false in
     let p = err_from_is_err_and c.from_residual-in_err-child.result c.from_residual-in_err-child.ensures.1 in
     rw (p.1, p.2)
-    (λ settled. ap listing (child-broken (g.B.Blocks.seen c.args.blocks.now).blocks (15 - length old.above.items) c.args.vcn old.met.keys _ some new (c.in_err-child.ensures.told told settled)))
+    (λ settled. ap listing (child-broken (g.B.Blocks.seen c.args.blocks.now).blocks (15 - length old.above.items)
+    c.args.vcn old.met.keys _ some new (c.in_err-child.ensures.told told settled)))
 
 pub returns-clause-told : goal.returns-clause-told
 returns-clause-told g c told =
     let old = c.args.self.now in
+    let inserted = c.in_ok-insert.ensures in
     record {
       within = omega arith;
-      twice = insert-new c.args.vcn old.met.keys c.in_ok-insert.field-0 c.in_ok-insert.ensures.added c.if-not-branch.false;
-      met = insert-met c.args.vcn old.met.keys c.insert.new.self.keys c.in_ok-insert.ensures.updates.0;
+      twice = insert-new c.args.vcn old.met.keys c.in_ok-insert.field-0 inserted.added c.if-not-branch.false;
+      met = insert-met c.args.vcn old.met.keys c.insert.new.self.keys inserted.updates.0;
       node = rw c.replace-parent.ensures.after (c.in_ok-child.ensures.told told);
       bears = rw c.replace-parent.ensures.after c.in_ok-child.ensures.first.bears;
     }

@@ -12,7 +12,8 @@ returns-in_err-enter-in-Child-clause-told g c told =
     let meets = rw c.entry.ensures at (c.in-Child.ensures old.present.vcn) in
     let p = err_from_is_err_and c.from_residual.result c.from_residual.ensures.1 in
     rw (p.1, p.2)
-    (λ settled. turn-refused (g.B.Blocks.seen c.args.blocks.now).blocks old c.in-Child.vcn _ meets (c.in_err-enter-in-Child.ensures.told told settled))
+    (λ settled. turn-refused (g.B.Blocks.seen c.args.blocks.now).blocks old c.in-Child.vcn _ meets
+    (c.in_err-enter-in-Child.ensures.told told settled))
 
 pub key_of-requires-clause-fields : goal.key_of-requires-clause-fields
 key_of-requires-clause-fields g c =
@@ -27,16 +28,20 @@ key_of-requires-clause-within g c =
 pub returns-in_ok-enter-in-Child-clause-told : goal.returns-in_ok-enter-in-Child-clause-told
 returns-in_ok-enter-in-Child-clause-told g c told =
     let old = c.args.self.now in
+    let arm = c.in_ok-enter-in-Child.ensures in
+    let blocks = (g.B.Blocks.seen c.args.blocks.now).blocks in
     let meets = rw c.entry.ensures at (c.in-Child.ensures old.present.vcn) in
-    turn-down (g.B.Blocks.seen c.args.blocks.now).blocks old c.in-Child.vcn c.enter.new.self meets c.in_ok-enter-in-Child.ensures.down (c.in_ok-enter-in-Child.ensures.told told)
+    turn-down blocks old c.in-Child.vcn c.enter.new.self meets arm.down (arm.told told)
 
 pub returns-in_ok-enter-in-Child-clause-moves : goal.returns-in_ok-enter-in-Child-clause-moves
 returns-in_ok-enter-in-Child-clause-moves g c =
     let arm = c.in_ok-enter-in-Child.ensures in
-    moved-down c.args.self.now c.enter.new.self _ _ (c.in-Child.ensures c.args.self.now.present.vcn).0 arm.down arm.path arm.one
+    moved-down c.args.self.now c.enter.new.self _ _
+    (c.in-Child.ensures c.args.self.now.present.vcn).0 arm.down arm.path arm.one
 
 pub returns-then-leave-clause-told : goal.returns-then-leave-clause-told
 returns-then-leave-clause-told g c told =
     let old = c.args.self.now in
     let step = rw c.entry.ensures at (c.in-End.ensures old.present.vcn) in
-    turn-up (g.B.Blocks.seen c.args.blocks.now).blocks old c.leave.new.self step (c.if-leave.ensures.up refl) c.if-leave.ensures.met
+    turn-up (g.B.Blocks.seen c.args.blocks.now).blocks old c.leave.new.self step (c.if-leave.ensures.up refl)
+    c.if-leave.ensures.met
