@@ -1,10 +1,11 @@
 #!/usr/bin/env python3
-"""Has each allocation of some work refused in turn, and says how the work ended then: whole, with want of memory, or wrong.
+"""Has each allocation of some work refused in turn, and says how the work ended then: whole, in want of memory, or wrong.
 
-The work is what the functions named `..._is_whole` and `..._are_whole` in the tests of the crates do: each answers whether all
-was done, and fails where something is wrong. `rt try --test --fail-alloc N` refuses the Nth allocation of each test. So this
-script writes N tests for each of these functions into a copy of the repository. They take 0, 1, 2 .. allocations before the
-function begins, so that together they refuse each allocation of it. Of the last tests none may miss one, else N is too small.
+The work is what the functions named `..._is_whole` and `..._are_whole` in the tests of the crates do: each answers whether
+all was done, and fails where something is wrong. `rt try --test --fail-alloc N` refuses the Nth allocation of each test.
+So this script writes N tests for each of these functions into a copy of the repository. They take 0, 1, 2 .. allocations
+before the function begins, so that together they refuse each allocation of it. Of the last tests none may miss one, else
+N is too small.
 
 Usage: tools/refused_memory.py [CRATE ..]. It ends with 1 where something was wrong. The repository is only read.
 """
@@ -46,7 +47,7 @@ fn refused_behind_COUNT(rt: HostRuntime) -> Result<(), Fail> {
 
 
 def endings(crate, file, work, number, counts):
-    """How the work ended in a copy of the repository where the allocation of this number was refused, by how many came first."""
+    """How the work ended in a copy of the repository where this allocation was refused, by how many came first."""
     with tempfile.TemporaryDirectory() as folder:
         top = pathlib.Path(folder) / "copy"
         shutil.copytree(TOP, top, ignore=shutil.ignore_patterns(".git", "out", "must-fail"))
@@ -105,7 +106,8 @@ def tried(crate, file, work, pool):
 
 
 def main():
-    crates = sys.argv[1:] or [line.split(":")[0] for line in (TOP / "crates.txt").read_text().splitlines() if ":" in line]
+    lines = (TOP / "crates.txt").read_text().splitlines()
+    crates = sys.argv[1:] or [line.split(":")[0] for line in lines if ":" in line]
     are_right = True
     with concurrent.futures.ThreadPoolExecutor(os.cpu_count()) as pool:
         for crate in crates:
