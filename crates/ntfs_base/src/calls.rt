@@ -41,12 +41,7 @@ impl Calls {
     }
 
     /// Lets the call of this number fail. Where memory is wanting, all is as before.
-    pub fn fail(
-        &mut self,
-        _alloc: Global,
-        number: u64,
-        leaves: Leaves,
-    ) -> Result<(), AllocError>
+    pub fn fail(&mut self, _alloc: Global, number: u64, leaves: Leaves) -> Result<(), AllocError>
         ensures made { self.new.made ≡ self.old.made }
         ensures added { OnOk result (self.new.failing.items ≡ plan_call number leaves self.old.failing.items) }
         ensures same { OnErr result (self.new.failing.items ≡ self.old.failing.items) }

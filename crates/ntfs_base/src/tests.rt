@@ -247,7 +247,9 @@ fn a_file_is_cut_and_extended(rt: HostRuntime) -> Result<(), Fail> {
     let mut made = file(alloc, b"0123")?;
     made.inside.calls.fail(alloc, 3, Leaves::Before)?;
     made.inside.calls.fail(alloc, 4, Leaves::Asked)?;
-    made.inside.calls.fail(alloc, 5, Leaves::Front { bytes: 1 })?;
+    made.inside
+        .calls
+        .fail(alloc, 5, Leaves::Front { bytes: 1 })?;
     let cases = [
         (3, Ok(()), b"012".as_slice()),
         (5, Ok(()), b"012\0\0"),
@@ -270,7 +272,9 @@ fn a_file_is_cut_and_extended(rt: HostRuntime) -> Result<(), Fail> {
 fn a_file_grows_by_a_front(rt: HostRuntime) -> Result<(), Fail> {
     let alloc = rt.alloc();
     let mut made = file(alloc, b"01")?;
-    made.inside.calls.fail(alloc, 2, Leaves::Front { bytes: 2 })?;
+    made.inside
+        .calls
+        .fail(alloc, 2, Leaves::Front { bytes: 2 })?;
     made.inside.calls.fail(alloc, 3, Leaves::Before)?;
     made.inside.calls.fail(alloc, 4, Leaves::Asked)?;
     let cases = [
@@ -346,7 +350,10 @@ fn a_file_is_read_from_its_start(rt: HostRuntime) -> Result<(), Fail> {
 fn a_file_takes_what_is_put(rt: HostRuntime) -> Result<(), Fail> {
     let alloc = rt.alloc();
     let mut inside = file(alloc, b"a")?;
-    inside.inside.calls.fail(alloc, 2, Leaves::Front { bytes: 1 })?;
+    inside
+        .inside
+        .calls
+        .fail(alloc, 2, Leaves::Front { bytes: 1 })?;
     inside.inside.calls.fail(alloc, 3, Leaves::Before)?;
     let mut sink = FileSink::new(inside);
     assert!(rt; sink.is_flushed);

@@ -145,7 +145,7 @@ fn an_image_has_its_boot_sector_and_its_clusters(rt: HostRuntime) -> Result<(), 
         assert_eq!(rt; geometry_of(&mut image(alloc, len)?), want);
     }
     let mut failing = image(alloc, 65_536)?;
-    failing.inside.calls.fail(1, Leaves::Before)?;
+    failing.inside.calls.fail(alloc, 1, Leaves::Before)?;
     assert_eq!(rt; geometry_of(&mut failing), Err(ImageFault::ReadFault));
     Ok(())
 }

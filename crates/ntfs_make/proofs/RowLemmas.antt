@@ -141,7 +141,7 @@ records-between shape first last none one two three four starts first_is second_
     let three_is : three ≡ (a ++ b) ++ d = third_is ∙ ap (λ (l : List ℕ). l ++ d) two_is in
     let whole : records_bytes shape (rows_between first last rows) ≡ a ++ (b ++ (d ++ e))
     = ap (records_bytes shape) (tables-between first last)
-        ∙ records-append shape (rows_between first last system_rows) _
-        ∙ ap (λ (l : List ℕ). a ++ l) (records-append shape (rows_between (first - 16) (last - 16) kind_rows) _
-        ∙ ap (λ (l : List ℕ). b ++ l) (records-append shape (rows_between (first - 32) (last - 32) file_rows) _)) in
+    ∙ records-append shape (rows_between first last system_rows) _
+    ∙ ap (λ (l : List ℕ). a ++ l) (records-append shape (rows_between (first - 16) (last - 16) kind_rows) _
+    ∙ ap (λ (l : List ℕ). b ++ l) (records-append shape (rows_between (first - 32) (last - 32) file_rows) _)) in
     fourth_is ∙ ap (λ (l : List ℕ). l ++ e) three_is ∙ append_assoc (a ++ b) d e ∙ append_assoc a b (d ++ e) ∙ sym whole

@@ -23,14 +23,14 @@ entry_lowest shape (Behind number) = (area_at shape number).length
 unfoldable pub list_entry_bytes : Shape → ListEntry → List ℕ
 list_entry_bytes shape entry =
     fields_bytes (
-    U32 entry.kind -- 0x00 type
-    ∷ U16 32 -- 0x04 length
-    ∷ U8 0 -- 0x06 name_length
-    ∷ U8 26 -- 0x07 name_offset
-    ∷ U64 (entry_lowest shape entry.lowest) -- 0x08 lowest_vcn
-    ∷ U64 (reference entry.number) -- 0x10 mft_reference
-    ∷ U16 entry.instance -- 0x18 instance
-    ∷ Zeros 6 -- 0x1A
+    U32 entry.kind  -- 0x00 type
+    ∷ U16 32  -- 0x04 length
+    ∷ U8 0  -- 0x06 name_length
+    ∷ U8 26  -- 0x07 name_offset
+    ∷ U64 (entry_lowest shape entry.lowest)  -- 0x08 lowest_vcn
+    ∷ U64 (reference entry.number)  -- 0x10 mft_reference
+    ∷ U16 entry.instance  -- 0x18 instance
+    ∷ Zeros 6  -- 0x1A
     ∷ [])
 
 unfoldable pub list_bytes : Shape → List ListEntry → List ℕ
@@ -49,18 +49,18 @@ value_of shape (ExtentBody extent) = []
 unfoldable pub resident_bytes : ℕ → List ℕ → ℕ → List ℕ → List ℕ
 resident_bytes kind name instance value =
     fields_bytes (
-    U32 kind -- 0x00 type
-    ∷ U32 (24 + length (with_padding (with_padding (utf16_bytes name) ++ value))) -- 0x04 length
-    ∷ U8 0 -- 0x08 non_resident
-    ∷ U8 (length name) -- 0x09 name_length
-    ∷ U16 24 -- 0x0A name_offset
-    ∷ U16 0 -- 0x0C flags
-    ∷ U16 instance -- 0x0E instance
-    ∷ U32 (length value) -- 0x10 value_length
-    ∷ U16 (24 + length (with_padding (utf16_bytes name))) -- 0x14 value_offset
-    ∷ U16 0 -- 0x16 resident_flags, reserved
+    U32 kind  -- 0x00 type
+    ∷ U32 (24 + length (with_padding (with_padding (utf16_bytes name) ++ value)))  -- 0x04 length
+    ∷ U8 0  -- 0x08 non_resident
+    ∷ U8 (length name)  -- 0x09 name_length
+    ∷ U16 24  -- 0x0A name_offset
+    ∷ U16 0  -- 0x0C flags
+    ∷ U16 instance  -- 0x0E instance
+    ∷ U32 (length value)  -- 0x10 value_length
+    ∷ U16 (24 + length (with_padding (utf16_bytes name)))  -- 0x14 value_offset
+    ∷ U16 0  -- 0x16 resident_flags, reserved
     ∷ [])
-    ++ with_padding (with_padding (utf16_bytes name) ++ value) -- 0x18
+    ++ with_padding (with_padding (utf16_bytes name) ++ value)  -- 0x18
 
 -- the bytes of the extent's clusters, where the extent tells them
 unfoldable pub compressed_size_bytes : Shape → Option Size → List ℕ
@@ -99,27 +99,27 @@ tail_bytes shape name extent =
 unfoldable pub sizes_bytes : Shape → ℕ → Extent → List ℕ
 sizes_bytes shape place extent =
     fields_bytes (
-    U64 (extent_lowest shape extent) -- 0x10 lowest_vcn
-    ∷ U64 ((extent_next shape extent + (2 ^ 64 - 1)) % 2 ^ 64) -- 0x18 highest_vcn
-    ∷ U16 place -- 0x20 mapping_pairs_offset
-    ∷ U16 extent.unit -- 0x22 compression_unit
-    ∷ U32 0 -- 0x24 reserved
-    ∷ U64 (allocated_size_of shape extent) -- 0x28 allocated_size
-    ∷ U64 (size_of shape extent.size) -- 0x30 data_size
-    ∷ U64 (size_of shape extent.initialised) -- 0x38 initialized_size
+    U64 (extent_lowest shape extent)  -- 0x10 lowest_vcn
+    ∷ U64 ((extent_next shape extent + (2 ^ 64 - 1)) % 2 ^ 64)  -- 0x18 highest_vcn
+    ∷ U16 place  -- 0x20 mapping_pairs_offset
+    ∷ U16 extent.unit  -- 0x22 compression_unit
+    ∷ U32 0  -- 0x24 reserved
+    ∷ U64 (allocated_size_of shape extent)  -- 0x28 allocated_size
+    ∷ U64 (size_of shape extent.size)  -- 0x30 data_size
+    ∷ U64 (size_of shape extent.initialised)  -- 0x38 initialized_size
     ∷ [])
 
 -- an attribute in clusters
 unfoldable pub nonresident_bytes : Shape → ℕ → List ℕ → ℕ → Extent → List ℕ
 nonresident_bytes shape kind name instance extent =
     fields_bytes (
-    U32 kind -- 0x00 type
-    ∷ U32 (64 + length (tail_bytes shape name extent)) -- 0x04 length
-    ∷ U8 1 -- 0x08 non_resident
-    ∷ U8 (length name) -- 0x09 name_length
-    ∷ U16 64 -- 0x0A name_offset
-    ∷ U16 extent.flags -- 0x0C flags
-    ∷ U16 instance -- 0x0E instance
+    U32 kind  -- 0x00 type
+    ∷ U32 (64 + length (tail_bytes shape name extent))  -- 0x04 length
+    ∷ U8 1  -- 0x08 non_resident
+    ∷ U8 (length name)  -- 0x09 name_length
+    ∷ U16 64  -- 0x0A name_offset
+    ∷ U16 extent.flags  -- 0x0C flags
+    ∷ U16 instance  -- 0x0E instance
     ∷ [])
     ++ sizes_bytes shape (pairs_place shape name extent) extent
     ++ tail_bytes shape name extent

@@ -34,21 +34,21 @@ base_reference (Some number) = reference number
 unfoldable pub header_bytes : RowValue → ℕ → List ℕ
 header_bytes row size =
     fields_bytes (
-    U32 0x454C4946 -- 0x00 magic
-    ∷ U16 0x30 -- 0x04 usa_ofs
-    ∷ U16 3 -- 0x06 usa_count
-    ∷ U64 0 -- 0x08 lsn
-    ∷ U16 1 -- 0x10 sequence_number
-    ∷ U16 (link_count row.attributes) -- 0x12 link_count
-    ∷ U16 0x38 -- 0x14 attrs_offset
-    ∷ U16 row.flags -- 0x16 flags
-    ∷ U32 (0x38 + size + 8) -- 0x18 bytes_in_use
-    ∷ U32 1024 -- 0x1C bytes_allocated
-    ∷ U64 (base_reference row.base) -- 0x20 base_mft_record
-    ∷ U16 (length row.attributes) -- 0x28 next_attr_instance
-    ∷ U16 0 -- 0x2A reserved
-    ∷ U32 row.number -- 0x2C mft_record_number
-    ∷ U64 0 -- 0x30 the update sequence array, up to the first attribute
+    U32 0x454C4946  -- 0x00 magic
+    ∷ U16 0x30  -- 0x04 usa_ofs
+    ∷ U16 3  -- 0x06 usa_count
+    ∷ U64 0  -- 0x08 lsn
+    ∷ U16 1  -- 0x10 sequence_number
+    ∷ U16 (link_count row.attributes)  -- 0x12 link_count
+    ∷ U16 0x38  -- 0x14 attrs_offset
+    ∷ U16 row.flags  -- 0x16 flags
+    ∷ U32 (0x38 + size + 8)  -- 0x18 bytes_in_use
+    ∷ U32 1024  -- 0x1C bytes_allocated
+    ∷ U64 (base_reference row.base)  -- 0x20 base_mft_record
+    ∷ U16 (length row.attributes)  -- 0x28 next_attr_instance
+    ∷ U16 0  -- 0x2A reserved
+    ∷ U32 row.number  -- 0x2C mft_record_number
+    ∷ U64 0  -- 0x30 the update sequence array, up to the first attribute
     ∷ [])
 
 -- the end mark, and four zero bytes

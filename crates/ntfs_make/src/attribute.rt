@@ -4,9 +4,9 @@ ghost use Rattle.std.specs.Prelude.{◌≡◌, ◌++◌, OnOk, IfOk, map};
 ghost use Rattle.ntfs_make.specs.Table.{attribute_value, body_value};
 ghost use Rattle.ntfs_make.specs.Attributes as spec;
 
+use crate::extent::{put_pairs, run_of, size_of, vcn_count};
 use crate::field::{Field, pad, put_fields, put_letters, put_zeros};
 use crate::index::{put_name, put_root, reference};
-use crate::extent::{put_pairs, run_of, size_of, vcn_count};
 use crate::layout::Layout;
 use crate::table::{Attribute, AttributeBody, Extent, ListEntry, LowestVcn, Size};
 use std::alloc::{AllocError, Global};
@@ -54,11 +54,7 @@ fn put_list(out: &mut Vec<u8>, layout: &Layout, list: &[ListEntry]) -> Result<()
 
 // A resident value; an extent has none.
 #[tactic(auto, unfolding(crate::specs::Attributes::value_of))]
-fn value_of(
-    alloc: Global,
-    layout: &Layout,
-    body: &AttributeBody,
-) -> Result<Vec<u8>, AllocError>
+fn value_of(alloc: Global, layout: &Layout, body: &AttributeBody) -> Result<Vec<u8>, AllocError>
     ensures { IfOk result (λ value. value.items ≡ spec.value_of layout.now (body_value body.now)) }
 {
     let mut value = Vec::new(alloc);
@@ -130,8 +126,7 @@ fn allocated_size_of(layout: &Layout, extent: &Extent) -> u64
     ensures { result ≡ spec.allocated_size_of layout.now extent.now }
 {
     if run_of(layout, extent.before).length == 0 {
-        (vcn_count(layout, extent) + run_of(layout, extent.behind).length)
-            * layout.shape().cluster
+        (vcn_count(layout, extent) + run_of(layout, extent.behind).length) * layout.shape().cluster
     } else {
         0
     }
@@ -146,12 +141,7 @@ struct Tail {
 
 // The name and the mapping pairs of an attribute in clusters.
 #[tactic(auto, unfolding(crate::specs::Attributes::tail_bytes, crate::specs::Attributes::front_bytes))]
-fn tail_of(
-    alloc: Global,
-    layout: &Layout,
-    name: &[u8],
-    extent: &Extent,
-) -> Result<Tail, AllocError>
+fn tail_of(alloc: Global, layout: &Layout, name: &[u8], extent: &Extent) -> Result<Tail, AllocError>
     ensures bytes { IfOk result (λ tail. tail.bytes.items ≡ spec.tail_bytes layout.now name.now extent.now) }
     ensures place { IfOk result (λ tail. tail.place ≡ spec.pairs_place layout.now name.now extent.now) }
 {

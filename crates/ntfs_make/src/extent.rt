@@ -61,11 +61,7 @@ fn push_run(runs: &mut RunList, run: Run) -> Result<(), AllocError>
 
 // The runs of an extent, without the empty ones.
 #[tactic(auto, unfolding(crate::specs::Extents::extent_runs))]
-fn extent_runs(
-    alloc: Global,
-    layout: &Layout,
-    extent: &Extent,
-) -> Result<RunList, AllocError>
+fn extent_runs(alloc: Global, layout: &Layout, extent: &Extent) -> Result<RunList, AllocError>
     ensures exact { IfOk result (λ runs. runs ≡ spec.extent_runs layout.now (spec.planned_runs extent.now)) }
     ensures spellable { IfOk result (λ runs. AreSpellable runs) }
     ensures few { IfOk result (λ runs. length runs ≤ 3) }

@@ -4,10 +4,10 @@ ghost use Rattle.std.specs.Prelude.{◌≡◌, ◌++◌, ◌≤◌, OnOk, IfOk, 
 ghost use Rattle.ntfs_make.specs.Table.{name_value, root_value, root_name_value};
 ghost use Rattle.ntfs_make.specs.Index as spec;
 
-use crate::field::{Field, pad, put_fields, put_letters, cut_or_fill};
-use crate::root_names::root_names;
+use crate::field::{Field, cut_or_fill, pad, put_fields, put_letters};
 use crate::layout::Layout;
-use crate::table::{FileName, RootName, Root};
+use crate::root_names::root_names;
+use crate::table::{FileName, Root, RootName};
 use ntfs_fixup::refix;
 use std::alloc::{AllocError, Global};
 

@@ -41,11 +41,7 @@ fn write_area<G: Image>(
 }
 
 // Writes the copy of the boot sector.
-fn write_copy<G: Image>(
-    alloc: Global,
-    image: &mut G,
-    layout: &Layout,
-) -> Result<(), MakeFault>
+fn write_copy<G: Image>(alloc: Global, image: &mut G, layout: &Layout) -> Result<(), MakeFault>
     requires size { (G.seen image.old).size ≡ (layout.now.clusters + 1) * layout.now.cluster }
     ensures wrote { Wrote (spec.copy_write layout.now ∷ []) (G.seen image.old) result (G.seen image.new) }
     ensures writes { OnlyWrites G.Image spec.make_origin image.old image.new result }
@@ -57,11 +53,7 @@ fn write_copy<G: Image>(
 }
 
 // Writes what stands in all areas.
-fn write_areas<G: Image>(
-    alloc: Global,
-    image: &mut G,
-    layout: &Layout,
-) -> Result<(), MakeFault>
+fn write_areas<G: Image>(alloc: Global, image: &mut G, layout: &Layout) -> Result<(), MakeFault>
     requires { (G.seen image.old).size ≡ (layout.now.clusters + 1) * layout.now.cluster }
     ensures wrote { Wrote (map (spec.area_write layout.now) (areas_of layout.now)) (G.seen image.old) result (G.seen image.new) }
     ensures writes { OnlyWrites G.Image spec.make_origin image.old image.new result }

@@ -5,7 +5,7 @@ ghost use Rattle.ntfs_make.specs.Table.{attribute_value, row_value};
 ghost use Rattle.ntfs_make.specs.Records as spec;
 
 use crate::attribute::put_attributes;
-use crate::field::{Field, put_fields, put_zeros, cut_or_fill};
+use crate::field::{Field, cut_or_fill, put_fields, put_zeros};
 use crate::index::reference;
 use crate::layout::Layout;
 use crate::table::{Attribute, AttributeBody, Row};
@@ -66,12 +66,7 @@ fn put_header(out: &mut Vec<u8>, row: &Row, size: u64) -> Result<(), AllocError>
 
 // Puts a record in use as it is before its fixups.
 #[tactic(auto, unfolding(crate::specs::Records::record_text, crate::specs::Records::end_mark))]
-fn put_text(
-    alloc: Global,
-    out: &mut Vec<u8>,
-    layout: &Layout,
-    row: &Row,
-) -> Result<(), AllocError>
+fn put_text(alloc: Global, out: &mut Vec<u8>, layout: &Layout, row: &Row) -> Result<(), AllocError>
     ensures { OnOk result (out.new.items ≡ out.old.items ++ spec.record_text layout.now (row_value row.now)) }
 {
     let mut attributes = Vec::new(alloc);
@@ -83,11 +78,7 @@ fn put_text(
 
 // A record.
 #[tactic(auto, unfolding(crate::specs::Records::record_of_row))]
-fn record_of(
-    alloc: Global,
-    layout: &Layout,
-    row: &Row,
-) -> Result<Vec<u8>, AllocError>
+fn record_of(alloc: Global, layout: &Layout, row: &Row) -> Result<Vec<u8>, AllocError>
     ensures { IfOk result (λ bytes. bytes.items ≡ spec.record_of_row layout.now (row_value row.now)) }
 {
     let mut record = Vec::with_capacity(alloc, 1024)?;

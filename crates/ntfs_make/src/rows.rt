@@ -4,7 +4,9 @@ ghost use Rattle.std.specs.Prelude.{◌≡◌, map, length};
 ghost use Rattle.ntfs_make.specs.Table.{row_value};
 ghost use Rattle.ntfs_make.specs.Rows as spec;
 
-use crate::table::{Attribute, AttributeBody, Extent, FileName, ListEntry, LowestVcn, PlannedRun, Root, Row, Size};
+use crate::table::{
+    Attribute, AttributeBody, Extent, FileName, ListEntry, LowestVcn, PlannedRun, Root, Row, Size,
+};
 
 // $STANDARD_INFORMATION.
 macro_rules! standard {
@@ -117,13 +119,26 @@ static SYSTEM: [Row; 16] = [
             extent!(
                 0x80,
                 b"",
-                one_run!(PlannedRun::NoRun, PlannedRun::InArea(1), PlannedRun::InArea(7), Size::Exact(65536))
+                one_run!(
+                    PlannedRun::NoRun,
+                    PlannedRun::InArea(1),
+                    PlannedRun::InArea(7),
+                    Size::Exact(65536)
+                )
             ),
             value!(0xB0, b"", b"\xff\x0f\xff\x1f\xff\xff\0\0"),
         ]
     ),
-    file!(1, b"$MFTMirr", data!(PlannedRun::InArea(2), Size::Exact(4096))),
-    file!(2, b"$LogFile", data!(PlannedRun::InArea(3), Size::Exact(65536))),
+    file!(
+        1,
+        b"$MFTMirr",
+        data!(PlannedRun::InArea(2), Size::Exact(4096))
+    ),
+    file!(
+        2,
+        b"$LogFile",
+        data!(PlannedRun::InArea(3), Size::Exact(65536))
+    ),
     file!(
         3,
         b"$Volume",
@@ -141,7 +156,12 @@ static SYSTEM: [Row; 16] = [
             extent!(
                 0xA0,
                 b"$I30",
-                one_run!(PlannedRun::NoRun, PlannedRun::InArea(6), PlannedRun::NoRun, Size::Exact(4096))
+                one_run!(
+                    PlannedRun::NoRun,
+                    PlannedRun::InArea(6),
+                    PlannedRun::NoRun,
+                    Size::Exact(4096)
+                )
             ),
             value!(0xB0, b"$I30", b"\x01\0\0\0\0\0\0\0"),
         ]
@@ -175,7 +195,11 @@ static SYSTEM: [Row; 16] = [
         ]
     ),
     file!(9, b"$Secure", value!(0x80, b"", b"")),
-    file!(10, b"$UpCase", data!(PlannedRun::InArea(5), Size::Exact(131072))),
+    file!(
+        10,
+        b"$UpCase",
+        data!(PlannedRun::InArea(5), Size::Exact(131072))
+    ),
     row!(
         11,
         3,
@@ -271,7 +295,12 @@ static KINDS: [Row; 16] = [
             extent!(
                 0x80,
                 b"",
-                one_run!(PlannedRun::NoRun, PlannedRun::InArea(11), PlannedRun::InArea(12), Size::Clusters(2))
+                one_run!(
+                    PlannedRun::NoRun,
+                    PlannedRun::InArea(11),
+                    PlannedRun::InArea(12),
+                    Size::Clusters(2)
+                )
             ),
         ]
     ),
@@ -282,7 +311,12 @@ static KINDS: [Row; 16] = [
         &[extent!(
             0x80,
             b"",
-            one_run!(PlannedRun::InArea(11), PlannedRun::InArea(12), PlannedRun::NoRun, Size::Exact(0))
+            one_run!(
+                PlannedRun::InArea(11),
+                PlannedRun::InArea(12),
+                PlannedRun::NoRun,
+                Size::Exact(0)
+            )
         ),]
     ),
     row!(
@@ -350,7 +384,12 @@ static KINDS: [Row; 16] = [
         &[extent!(
             0x80,
             b"",
-            one_run!(PlannedRun::InArea(1), PlannedRun::InArea(7), PlannedRun::NoRun, Size::Exact(0))
+            one_run!(
+                PlannedRun::InArea(1),
+                PlannedRun::InArea(7),
+                PlannedRun::NoRun,
+                Size::Exact(0)
+            )
         ),]
     ),
     unused!(29),
@@ -359,22 +398,86 @@ static KINDS: [Row; 16] = [
 ];
 
 static FILES: [Row; 16] = [
-    file!(32, b"file00", data!(PlannedRun::InArea(13), Size::InArea(13))),
-    file!(33, b"file01", data!(PlannedRun::InArea(14), Size::InArea(14))),
-    file!(34, b"file02", data!(PlannedRun::InArea(15), Size::InArea(15))),
-    file!(35, b"file03", data!(PlannedRun::InArea(16), Size::InArea(16))),
-    file!(36, b"file04", data!(PlannedRun::InArea(17), Size::InArea(17))),
-    file!(37, b"file05", data!(PlannedRun::InArea(18), Size::InArea(18))),
-    file!(38, b"file06", data!(PlannedRun::InArea(19), Size::InArea(19))),
-    file!(39, b"file07", data!(PlannedRun::InArea(20), Size::InArea(20))),
-    file!(40, b"file08", data!(PlannedRun::InArea(21), Size::InArea(21))),
-    file!(41, b"file09", data!(PlannedRun::InArea(22), Size::InArea(22))),
-    file!(42, b"file10", data!(PlannedRun::InArea(23), Size::InArea(23))),
-    file!(43, b"file11", data!(PlannedRun::InArea(24), Size::InArea(24))),
-    file!(44, b"file12", data!(PlannedRun::InArea(25), Size::InArea(25))),
-    file!(45, b"file13", data!(PlannedRun::InArea(26), Size::InArea(26))),
-    file!(46, b"file14", data!(PlannedRun::InArea(27), Size::InArea(27))),
-    file!(47, b"file15", data!(PlannedRun::InArea(28), Size::InArea(28))),
+    file!(
+        32,
+        b"file00",
+        data!(PlannedRun::InArea(13), Size::InArea(13))
+    ),
+    file!(
+        33,
+        b"file01",
+        data!(PlannedRun::InArea(14), Size::InArea(14))
+    ),
+    file!(
+        34,
+        b"file02",
+        data!(PlannedRun::InArea(15), Size::InArea(15))
+    ),
+    file!(
+        35,
+        b"file03",
+        data!(PlannedRun::InArea(16), Size::InArea(16))
+    ),
+    file!(
+        36,
+        b"file04",
+        data!(PlannedRun::InArea(17), Size::InArea(17))
+    ),
+    file!(
+        37,
+        b"file05",
+        data!(PlannedRun::InArea(18), Size::InArea(18))
+    ),
+    file!(
+        38,
+        b"file06",
+        data!(PlannedRun::InArea(19), Size::InArea(19))
+    ),
+    file!(
+        39,
+        b"file07",
+        data!(PlannedRun::InArea(20), Size::InArea(20))
+    ),
+    file!(
+        40,
+        b"file08",
+        data!(PlannedRun::InArea(21), Size::InArea(21))
+    ),
+    file!(
+        41,
+        b"file09",
+        data!(PlannedRun::InArea(22), Size::InArea(22))
+    ),
+    file!(
+        42,
+        b"file10",
+        data!(PlannedRun::InArea(23), Size::InArea(23))
+    ),
+    file!(
+        43,
+        b"file11",
+        data!(PlannedRun::InArea(24), Size::InArea(24))
+    ),
+    file!(
+        44,
+        b"file12",
+        data!(PlannedRun::InArea(25), Size::InArea(25))
+    ),
+    file!(
+        45,
+        b"file13",
+        data!(PlannedRun::InArea(26), Size::InArea(26))
+    ),
+    file!(
+        46,
+        b"file14",
+        data!(PlannedRun::InArea(27), Size::InArea(27))
+    ),
+    file!(
+        47,
+        b"file15",
+        data!(PlannedRun::InArea(28), Size::InArea(28))
+    ),
 ];
 
 static SPARE: [Row; 16] = [

@@ -86,7 +86,10 @@ fn bit_of(layout: &Layout, cluster: u64) -> u8
     ensures bit { result ≤ 1 }
 {
     let clusters = layout.shape().clusters;
-    if clusters <= cluster || cluster == bad_cluster(clusters) || has_area(layout.areas(), cluster) {
+    if clusters <= cluster
+        || cluster == bad_cluster(clusters)
+        || has_area(layout.areas(), cluster)
+    {
         1
     } else {
         0
@@ -175,14 +178,40 @@ fn whole(bytes: Vec<u8>) -> StreamPart
 }
 
 // The records from a number on, up to another.
-fn records_between(alloc: Global, layout: &Layout, first: usize, last: usize) -> Result<Vec<u8>, AllocError>
+fn records_between(
+    alloc: Global,
+    layout: &Layout,
+    first: usize,
+    last: usize,
+) -> Result<Vec<u8>, AllocError>
     ensures { IfOk result (λ bytes. bytes.items ≡ records_bytes layout.now (rows_between first last rows)) }
 {
     let mut bytes = Vec::new(alloc);
     put_records(alloc, &mut bytes, layout, system_rows(), first, last)?;
-    put_records(alloc, &mut bytes, layout, kind_rows(), first.saturating_sub(16), last.saturating_sub(16))?;
-    put_records(alloc, &mut bytes, layout, file_rows(), first.saturating_sub(32), last.saturating_sub(32))?;
-    put_records(alloc, &mut bytes, layout, spare_rows(), first.saturating_sub(48), last.saturating_sub(48))?;
+    put_records(
+        alloc,
+        &mut bytes,
+        layout,
+        kind_rows(),
+        first.saturating_sub(16),
+        last.saturating_sub(16),
+    )?;
+    put_records(
+        alloc,
+        &mut bytes,
+        layout,
+        file_rows(),
+        first.saturating_sub(32),
+        last.saturating_sub(32),
+    )?;
+    put_records(
+        alloc,
+        &mut bytes,
+        layout,
+        spare_rows(),
+        first.saturating_sub(48),
+        last.saturating_sub(48),
+    )?;
     Ok(bytes)
 }
 

@@ -294,7 +294,7 @@ fn a_hole_and_what_is_not_initialised_are_never_read(rt: HostRuntime) -> Result<
     ];
     for (told, reads) in cases {
         let mut image = MemImage::new(alloc, with_stream(alloc, told)?);
-        image.inside.calls.fail(reads + 1, Leaves::Before)?;
+        image.inside.calls.fail(alloc, reads + 1, Leaves::Before)?;
         let mut out = MemSink::new(alloc);
         assert_eq!(rt; cat(alloc, &mut image, 20, &mut out), Ok(()));
         assert_eq!(rt; image.inside.calls.made, reads);

@@ -179,7 +179,7 @@ fn each_call_fails_alone(rt: HostRuntime) -> Result<(), Fail> {
         (6, "2.2 4.2 6.2 7.3 8.3 10.4 11.4 12.4 13.4 whole.5"),
     ] {
         let (root, mut blocks) = tree(rt.alloc(), &uneven(), &[])?;
-        blocks.calls.fail(number, Leaves::Before)?;
+        blocks.calls.fail(rt.alloc(), number, Leaves::Before)?;
         let got = told(rt.alloc(), &root, &geometry(1024, 1024), &mut blocks)?;
         assert_eq!(rt; got.as_str(), want, "{number}");
         assert_eq!(rt; blocks.faults, u64::from(number < 6), "{number}");

@@ -53,7 +53,7 @@ write_at-requires g c =
     let cut : length (take (c.args.area.now.length * c.shape-cluster.result.cluster) some) ≤ c.args.area.now.length * c.shape-cluster.result.cluster = simp length-take (omega arith) in
     let bytes : length c.bytes_between-bytes.result.now ≤ c.args.area.now.length * shape.cluster
     = subst (λ n. length c.bytes_between-bytes.result.now ≤ c.args.area.now.length * n) same
-        (subst (λ (l : List ℕ). length l ≤ c.args.area.now.length * c.shape-cluster.result.cluster) (sym c.bytes_between-bytes.ensures) cut) in
+    (subst (λ (l : List ℕ). length l ≤ c.args.area.now.length * c.shape-cluster.result.cluster) (sym c.bytes_between-bytes.ensures) cut) in
     let within = inside c.args.area.now.start c.args.area.now.length shape.clusters shape.cluster (length c.bytes_between-bytes.result.now) lies.clusters bytes in
     let place : c.args.area.now.start * c.shape-cluster.result.cluster ≡ c.args.area.now.start * shape.cluster = ap (λ n. c.args.area.now.start * n) same in
     let size = c.requires.size in

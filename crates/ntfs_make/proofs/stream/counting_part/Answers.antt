@@ -27,7 +27,7 @@ returns c =
     let size = cluster_count c.args.layout.now c.args.vcns * c.args.layout.now.cluster in
     let is : c.cluster_count.result * c.shape-shape.result.cluster ≡ size
     = ap (λ n. n * c.shape-shape.result.cluster) c.cluster_count.ensures.exact
-        ∙ ap (λ (s : Shape). cluster_count s c.args.vcns * s.cluster) c.shape-shape.ensures.is in
+    ∙ ap (λ (s : Shape). cluster_count s c.args.vcns * s.cluster) c.shape-shape.ensures.is in
     let left : c.min-left.result ≡ min (size - c.args.from) c.args.count
     = c.min-left.ensures ∙ ap (λ n. min n c.args.count) (c.saturating_sub.ensures ∙ ap (λ n. n - c.args.from) is) in
     let bytes : c.in_ok-bytes.bytes.items ≡ counting_bytes (c.args.number + c.args.from) (min (size - c.args.from) c.args.count)
