@@ -14,7 +14,7 @@ use crate::status::Status;
 use ntfs_base::{Shelf, Sink, Source, UsageKind};
 use std::alloc::Global;
 
-/// MayWriteFiles a command line, without the program's own name, over a shelf of files, an input, an output and a sink of
+/// Runs a command line, without the program's own name, over a shelf of files, an input, an output and a sink of
 /// messages.
 ///
 /// The shelf may have no file attached, and has none when `run` returns. Where the status isn't `Done`, one line with

@@ -1,4 +1,4 @@
-ghost use Rattle.std.specs.Prelude.{◌≡◌, ◌≤◌, ◌+◌, ◌++◌, Ok, length};
+ghost use Rattle.std.specs.Prelude.{◌≡◌, ◌≤◌, ◌+◌, ◌++◌, IsErrOf, Ok, length};
 ghost use Rattle.ntfs_base.specs.Frames.{OnlyPuts, Puts};
 ghost use Rattle.ntfs_show.specs.Fault.{show_origin};
 ghost use Rattle.ntfs_show.specs.Info.{info_lines, label_text, number_line, serial_line};
@@ -28,6 +28,7 @@ enum Label {
 /// refusal a prefix of them was put.
 pub fn info_volume<K: Sink>(geometry: &Geometry, out: &mut K) -> Result<(), ShowFault>
     ensures puts { Puts show_origin (Ok (info_lines geometry.now)) (K.seen out.old) result (K.seen out.new) }
+    ensures nothing { IsErrOf result ShowFault.NoMemory → K.seen out.new ≡ K.seen out.old }
     ensures frame { OnlyPuts K.Sink show_origin out.old out.new result }
 {
     let text = text_of(geometry);
