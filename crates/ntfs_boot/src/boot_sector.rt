@@ -3,8 +3,8 @@ ghost use Rattle.ntfs_boot.specs.BootSector.{fields_of};
 
 use byteorder::{ByteOrder, LittleEndian};
 
-/// The fields of a boot sector that tell the geometry, as they stand there; specs/BootSector.antt has their names in the
-/// documentation.
+/// The fields of a boot sector that tell the geometry, as they stand there. Their places, units and names in the
+/// documentation stand at `fields_of`.
 #[derive(Clone, Copy)]
 pub(crate) struct BootSector {
     pub bytes_per_sector: u16,

@@ -34,49 +34,51 @@ const SMALL: Geometry = Geometry {
     serial: 0x0102_0304_0506_0708,
 };
 
+/// The bytes of a sector and sectors of a cluster, the codes of the record and the block size, and the geometry.
+const GOOD: [([u8; 3], [u8; 5], Geometry); 4] = [
+    ([0, 2, 2], [0xF6, 0, 0, 0, 4], SMALL),
+    (
+        [0, 4, 4],
+        [0xF6, 0, 0, 0, 1],
+        Geometry {
+            sector: 1024,
+            cluster: 4096,
+            clusters: 32,
+            mirror: 31,
+            ..SMALL
+        },
+    ),
+    (
+        [0, 8, 1],
+        [1, 0, 0, 0, 0xF0],
+        Geometry {
+            sector: 2048,
+            cluster: 2048,
+            record_size: 2048,
+            block: 65_536,
+            clusters: 128,
+            mirror: 124,
+            ..SMALL
+        },
+    ),
+    (
+        [0, 16, 16],
+        [0xF4, 0, 0, 0, 1],
+        Geometry {
+            sector: 4096,
+            cluster: 65_536,
+            record_size: 4096,
+            block: 65_536,
+            clusters: 8,
+            mirror: 7,
+            ..SMALL
+        },
+    ),
+];
+
 #[test]
 fn sectors_of_each_size_are_good(rt: HostRuntime) {
-    let cases: [([u8; 3], [u8; 5], Geometry); 4] = [
-        ([0, 2, 2], [0xF6, 0, 0, 0, 4], SMALL),
-        (
-            [0, 4, 4],
-            [0xF6, 0, 0, 0, 1],
-            Geometry {
-                sector: 1024,
-                cluster: 4096,
-                clusters: 32,
-                mirror: 31,
-                ..SMALL
-            },
-        ),
-        (
-            [0, 8, 1],
-            [1, 0, 0, 0, 0xF0],
-            Geometry {
-                sector: 2048,
-                cluster: 2048,
-                record_size: 2048,
-                block: 65_536,
-                clusters: 128,
-                mirror: 124,
-                ..SMALL
-            },
-        ),
-        (
-            [0, 16, 16],
-            [0xF4, 0, 0, 0, 1],
-            Geometry {
-                sector: 4096,
-                cluster: 65_536,
-                record_size: 4096,
-                block: 65_536,
-                clusters: 8,
-                mirror: 7,
-                ..SMALL
-            },
-        ),
-    ];
-    for (sizes, codes, want) in cases {
+    for (sizes, codes, want) in GOOD {
         let mut sector = [0; 512];
         put_sector(&mut sector);
         patch(&mut sector, 0x0B, &sizes);

@@ -57,8 +57,8 @@ fn clear(buffer: &mut [u8], from: usize)
     buffer[from..].fill(0);
 }
 
-/// Reads a cell of which so many bytes are initialised: a hole, and what isn't initialised, is zeros. A hole, and a cell
-/// of which nothing is initialised, is never read.
+/// Reads a cell of which so many bytes are initialised: a hole, and what isn't initialised, is zeros. A hole, and a
+/// cell of which nothing is initialised, is never read.
 fn read_cell<G: Image>(
     image: &mut G,
     geometry: &Geometry,

@@ -339,51 +339,80 @@ fn extents_of_one_record_join(rt: HostRuntime) -> Result<(), Fail> {
     Ok(())
 }
 
+/// What record 20 tells, and the refusal of its stream.
+const BROKEN: [(Runs<'static>, CatFault); 8] = [
+    (
+        Runs {
+            pairs: &[0x91],
+            ..TWO
+        },
+        CatFault::Damaged {
+            rule: Rule::C7,
+            number: 20,
+        },
+    ),
+    (
+        Runs { next: 3, ..TWO },
+        CatFault::Damaged {
+            rule: Rule::C7,
+            number: 20,
+        },
+    ),
+    (
+        Runs {
+            pairs: &[0x11, 0x02, 0x3F, 0x00],
+            ..TWO
+        },
+        CatFault::Damaged {
+            rule: Rule::C7,
+            number: 20,
+        },
+    ),
+    (
+        Runs {
+            lowest: 1,
+            next: 3,
+            ..TWO
+        },
+        CatFault::Damaged {
+            rule: Rule::C12,
+            number: 20,
+        },
+    ),
+    (
+        Runs { size: 2049, ..TWO },
+        CatFault::Damaged {
+            rule: Rule::C12,
+            number: 20,
+        },
+    ),
+    (
+        Runs { valid: 1501, ..TWO },
+        CatFault::Damaged {
+            rule: Rule::C12,
+            number: 20,
+        },
+    ),
+    (
+        Runs {
+            flags: 0x0001,
+            ..TWO
+        },
+        CatFault::NotPlain { flags: 0x0001 },
+    ),
+    (
+        Runs {
+            flags: 0xC000,
+            ..TWO
+        },
+        CatFault::NotPlain { flags: 0xC000 },
+    ),
+];
+
 #[test]
 fn broken_streams_are_refused(rt: HostRuntime) -> Result<(), Fail> {
     let alloc = rt.alloc();
-    let cases = [
-        (
-            Runs {
-                pairs: &[0x91],
-                ..TWO
-            },
-            damaged(Rule::C7, 20),
-        ),
-        (Runs { next: 3, ..TWO }, damaged(Rule::C7, 20)),
-        (
-            Runs {
-                pairs: &[0x11, 0x02, 0x3F, 0x00],
-                ..TWO
-            },
-            damaged(Rule::C7, 20),
-        ),
-        (
-            Runs {
-                lowest: 1,
-                next: 3,
-                ..TWO
-            },
-            damaged(Rule::C12, 20),
-        ),
-        (Runs { size: 2049, ..TWO }, damaged(Rule::C12, 20)),
-        (Runs { valid: 1501, ..TWO }, damaged(Rule::C12, 20)),
-        (
-            Runs {
-                flags: 0x0001,
-                ..TWO
-            },
-            CatFault::NotPlain { flags: 0x0001 },
-        ),
-        (
-            Runs {
-                flags: 0xC000,
-                ..TWO
-            },
-            CatFault::NotPlain { flags: 0xC000 },
-        ),
-    ];
-    for (told, fault) in cases {
+    for (told, fault) in BROKEN {
         refused(&rt, alloc, with_stream(alloc, told)?, 20, fault);
     }
     let mut bytes = volume(alloc)?;
