@@ -1,27 +1,25 @@
 -- What the answer of a tool says of the program's reply.
 use Rattle.std.proofs.Common.{◌≡◌, ◌↔◌, ℕ, Bool, true, false, List, refl, sym, ap, subst, ◌∙◌, Result, Ok, Err, Option, Some, None}
-use Rattle.std.proofs.Common.{IfErr, OnOk, is_ok, inl, inr, length, arith}
+use Rattle.std.proofs.Common.{IfErr, IfOk, OnOk, is_ok, inl, inr, length, arith}
 use Rattle.std.proofs.lemmas.List.{take_all}
-use Rattle.std.specs.Option.{ok_or}
 use Rattle.ntfs_base.specs.Causes.{SinkCause}
-use Rattle.ntfs_base.specs.Frames.{Because, IfFiles, must, ◌>>=◌}
+use Rattle.ntfs_base.specs.Frames.{Because, IfFiles}
 use Rattle.ntfs_base.specs.Sink.{Put, SinkState, after_put}
 use Rattle.ntfs_base.specs.declared.fault.PutFault.{PutFault}
 use Rattle.ntfs_base.specs.declared.fault.PutFault.TheVariants as put
 use Rattle.ntfs_base.specs.declared.fault.SinkFaults.{SinkFaults}
 use Rattle.ntfs_base.specs.declared.refusal.UsageKind.{UsageKind}
-use Rattle.ntfs_base.specs.declared.refusal.UsageKind.TheVariants as usage
 use Rattle.ntfs_base.specs.declared.shelf.Shelf as shelf
 use Rattle.ntfs_base.specs.declared.sink.Sink as sink
 use Rattle.ntfs_run.specs.Cat.{CatRefuses}
-use Rattle.ntfs_run.specs.Command.{Command, info, cat, make, cat_command, info_command, make_command, tool_command, tool_of, command_in, nth_word}
+use Rattle.ntfs_run.specs.Command.{CanMisuse, Command, command_in, command_of, reading_of, tool_for, tool_of}
 use Rattle.ntfs_run.specs.Info.{InfoRefuses}
-use Rattle.ntfs_run.specs.Make.{MakeRefuses, is_in_range}
-use Rattle.ntfs_run.specs.Numbers.{number_of}
+use Rattle.ntfs_run.specs.Make.{MakeRefuses}
 use Rattle.ntfs_run.specs.Outcome.{Does, MayWriteFiles, status_of, status_origin}
 use Rattle.ntfs_run.specs.Message.{message_for, message_of}
-use Rattle.ntfs_run.specs.Reply.{CanAnswer, CommandRefuses, IfDone, LeavesFiles, PutsMessage, CanRefuse, Replies, KeepsShelf, outcome_for, reply}
+use Rattle.ntfs_run.specs.Reply.{CanAnswer, IfDone, ToolRefuses, LeavesFiles, PutsMessage, CanRefuse, Replies, KeepsShelf, outcome_for, reply}
 use Rattle.ntfs_run.proofs.CatLemmas.{puts_stream}
+use Rattle.ntfs_run.specs.declared.request.Request.{Request}
 use Rattle.ntfs_run.specs.declared.request.Tool.{Tool}
 use Rattle.ntfs_run.specs.declared.request.Tool.TheVariants.{Info, Cat, Make}
 use Rattle.ntfs_run.specs.declared.status.Status.{Status}
@@ -29,107 +27,70 @@ use Rattle.ntfs_run.specs.declared.status.Status.TheVariants as status
 
 -- ---- refusals of the words
 
-no_usage : (command : Command) (kind : UsageKind) → CommandRefuses command (status.Usage kind) → ⊥
-no_usage (info image) kind is = is
-no_usage (cat image number) kind is = is
-no_usage (make file seed clusters cluster) kind is = is
+-- a refusal of words that were taken is neither of these
+abbrev IsOther : Status → Type 0
+IsOther status.Done = ⊥
+IsOther (status.Usage kind) = ⊥
+IsOther other = Unit {0}
 
--- they come exactly where the words are refused
+info_other : (fault : Status) → InfoRefuses fault → IsOther fault
+info_other status.Done is = is
+info_other (status.Usage kind) is = is
+info_other other is = tt
+
+cat_other : (fault : Status) → CatRefuses fault → IsOther fault
+cat_other status.Done is = is
+cat_other (status.Usage kind) is = is
+cat_other other is = tt
+
+make_other : (fault : Status) → MakeRefuses fault → IsOther fault
+make_other status.Done is = is
+make_other (status.Usage kind) is = is
+make_other other is = tt
+
+is_other : (tool : Tool) (fault : Status) → ToolRefuses tool fault → IsOther fault
+is_other Info fault is = info_other fault is
+is_other Cat fault is = cat_other fault is
+is_other Make fault is = make_other fault is
+
+-- Usage comes exactly where the words are refused
 usage_exact : (reading : Result Command UsageKind) (result : Result (Unit {0}) Status) → IfErr result (CanRefuse reading)
     → OnOk result (is_ok reading ≡ true) → (kind : UsageKind) → (status_of result ≡ status.Usage kind) ↔ (reading ≡ Err kind)
 usage_exact (Err k) (Ok x) refusal taken kind = absurd cc
 usage_exact (Err k) (Err fault) refusal taken kind = (λ is. cc, λ is. cc)
 usage_exact (Ok command) (Ok x) refusal taken kind = (λ is. absurd cc, λ is. absurd cc)
-usage_exact (Ok command) (Err fault) refusal taken kind = (λ is. absurd (no_usage command kind (subst (CommandRefuses command) is refusal)), λ is. absurd cc)
+usage_exact (Ok command) (Err fault) refusal taken kind =
+    (λ is. absurd (subst IsOther is (is_other (tool_for command) fault refusal)), λ is. absurd cc)
 
 -- ---- the statuses of a tool
 
--- of the readings that a tool's words can have, `P` holds
-info_reading : (P : Result Command UsageKind → Type 0) (b : Bool) (image : List ℕ) → P (Err usage.Line) → P (Ok (info image))
-    → P (must b usage.Line >>= (λ line. Ok (info image)))
-info_reading P true image line taken = taken
-info_reading P false image line taken = line
+pub reading_err : (P : UsageKind → Type 0) (r : Result Request UsageKind) → IfErr r P → IfErr (reading_of r) P
+reading_err P (Ok request) is = tt
+reading_err P (Err kind) is = is
 
-cat_reading : (P : Result Command UsageKind → Type 0) (b : Bool) (o : Option ℕ) (image : List ℕ) → P (Err usage.Line) → P (Err usage.Number)
-    → ((number : ℕ) → P (Ok (cat image number)))
-    → P (must b usage.Line >>= (λ line. ok_or o usage.Number >>= (λ number. Ok (cat image number))))
-cat_reading P true (Some n) image line number taken = taken n
-cat_reading P true None image line number taken = number
-cat_reading P false o image line number taken = line
+pub reading_ok : (P : Command → Type 0) (r : Result Request UsageKind) → IfOk r (λ request. P (command_of request)) → IfOk (reading_of r) P
+reading_ok P (Ok request) is = is
+reading_ok P (Err kind) is = tt
 
-in_ranges : (P : Result Command UsageKind → Type 0) (b : Bool) (command : Command) → P (Err usage.Number) → P (Ok command)
-    → P (must b usage.Number >>= (λ range. Ok command))
-in_ranges P true command number taken = taken
-in_ranges P false command number taken = number
+can_refuse : (tool : Tool) (fault : Status) → ToolRefuses tool fault → IsOther fault → CanAnswer (Some tool) fault
+can_refuse tool status.Done is other = absurd other
+can_refuse tool (status.Usage kind) is other = absurd other
+can_refuse tool fault is other = is
 
-make_reading : (P : Result Command UsageKind → Type 0) (b : Bool) (x y z : Option ℕ) (file : List ℕ) → P (Err usage.Line) → P (Err usage.Number)
-    → ((seed clusters cluster : ℕ) → P (Ok (make file seed clusters cluster)))
-    → P (must b usage.Line >>= (λ line. ok_or x usage.Number >>= (λ seed. ok_or y usage.Number >>= (λ clusters. ok_or z usage.Number >>= (λ cluster.
-    must (is_in_range clusters cluster) usage.Number >>= (λ range. Ok (make file seed clusters cluster)))))))
-make_reading P true (Some seed) (Some clusters) (Some cluster) file line number taken =
-    in_ranges P (is_in_range clusters cluster) (make file seed clusters cluster) number (taken seed clusters cluster)
-make_reading P true (Some seed) (Some clusters) None file line number taken = number
-make_reading P true (Some seed) None z file line number taken = number
-make_reading P true None y z file line number taken = number
-make_reading P false x y z file line number taken = line
-
-info_can : (fault : Status) → InfoRefuses fault → CanAnswer (Some Info) fault
-info_can status.Done is = absurd is
-info_can (status.Usage kind) is = absurd is
-info_can other is = is
-
-cat_can : (fault : Status) → CatRefuses fault → CanAnswer (Some Cat) fault
-cat_can status.Done is = absurd is
-cat_can (status.Usage kind) is = absurd is
-cat_can other is = is
-
-make_can : (fault : Status) → MakeRefuses fault → CanAnswer (Some Make) fault
-make_can status.Done is = absurd is
-make_can (status.Usage kind) is = absurd is
-make_can other is = is
-
--- a tool's answer to words that were read so
-abbrev Can : Option Tool → Result (Unit {0}) Status → Result Command UsageKind → Type 0
-Can tool result reading = IfErr result (CanRefuse reading) → OnOk result (is_ok reading ≡ true) → CanAnswer tool (status_of result)
-
-can_refuse : (tool : Option Tool) (kind : UsageKind) (result : Result (Unit {0}) Status) → CanAnswer tool (status.Usage kind) → Can tool result (Err kind)
-can_refuse tool kind (Ok x) can refusal taken = absurd cc
-can_refuse tool kind (Err fault) can refusal taken = subst (CanAnswer tool) (sym refusal) can
-
-can_do : (tool : Option Tool) (command : Command) (result : Result (Unit {0}) Status) → CanAnswer tool status.Done
-    → ((fault : Status) → CommandRefuses command fault → CanAnswer tool fault) → Can tool result (Ok command)
-can_do tool command (Ok x) done can refusal taken = done
-can_do tool command (Err fault) done can refusal taken = can fault refusal
-
-info_listed : (words : List (List ℕ)) (result : Result (Unit {0}) Status) → Can (Some Info) result (info_command words)
-unfolding info_command
-info_listed words result = info_reading (Can (Some Info) result) _ (nth_word 2 words) (can_refuse (Some Info) usage.Line result tt)
-    (can_do (Some Info) (info (nth_word 2 words)) result tt info_can)
-
-cat_listed : (words : List (List ℕ)) (result : Result (Unit {0}) Status) → Can (Some Cat) result (cat_command words)
-unfolding cat_command
-cat_listed words result = cat_reading (Can (Some Cat) result) _ (number_of (nth_word 2 words)) (nth_word 3 words) (can_refuse (Some Cat) usage.Line result tt)
-    (can_refuse (Some Cat) usage.Number result tt) (λ number. can_do (Some Cat) (cat (nth_word 3 words) number) result tt cat_can)
-
-make_listed : (words : List (List ℕ)) (result : Result (Unit {0}) Status) → Can (Some Make) result (make_command words)
-unfolding make_command
-make_listed words result = make_reading (Can (Some Make) result) _ (number_of (nth_word 2 words)) (number_of (nth_word 3 words)) (number_of (nth_word 4 words)) (nth_word 1 words)
-    (can_refuse (Some Make) usage.Line result tt) (can_refuse (Some Make) usage.Number result tt)
-    (λ seed clusters cluster. can_do (Some Make) (make (nth_word 1 words) seed clusters cluster) result tt make_can)
-
-listed : (tool : Option Tool) (words : List (List ℕ)) (result : Result (Unit {0}) Status) → Can tool result (tool_command tool words)
-listed None words result = can_refuse None usage.Tool result tt
-listed (Some Info) words result = info_listed words result
-listed (Some Cat) words result = cat_listed words result
-listed (Some Make) words result = make_listed words result
+listed : (tool : Option Tool) (reading : Result Command UsageKind) (result : Result (Unit {0}) Status) → IfErr result (CanRefuse reading)
+    → OnOk result (is_ok reading ≡ true) → IfErr reading (CanMisuse tool) → IfOk reading (λ command. tool ≡ Some (tool_for command))
+    → CanAnswer tool (status_of result)
+listed tool (Err kind) (Ok x) refusal taken kinds named = absurd cc
+listed tool (Err kind) (Err fault) refusal taken kinds named = subst (CanAnswer tool) (sym refusal) kinds
+listed tool (Ok command) (Ok x) refusal taken kinds named = subst (λ t. CanAnswer t status.Done) (sym named) tt
+listed tool (Ok command) (Err fault) refusal taken kinds named =
+    subst (λ t. CanAnswer t fault) (sym named) (can_refuse (tool_for command) fault refusal (is_other (tool_for command) fault refusal))
 
 -- ---- what the program's reply says further
 
 not_done : (reading : Result Command UsageKind) → CanRefuse reading status.Done → ⊥
 not_done (Err kind) is = absurd cc
-not_done (Ok (info image)) is = is
-not_done (Ok (cat image number)) is = is
-not_done (Ok (make file seed clusters cluster)) is = is
+not_done (Ok command) is = is_other (tool_for command) status.Done is
 
 if_done : (fault : Status) (P : Type 0) → (fault ≡ status.Done → P) → IfDone fault P
 if_done status.Done P f = f refl
@@ -161,7 +122,8 @@ puts_message line old new before after (Err put.NoMemory) is cause =
 -- all of it, for words that were read
 pub replies : {S F O E T : Type 0} (s : shelf.Ghosts S F) (o : sink.Ghosts O) (e : sink.Ghosts E) (words : List (List ℕ))
     (reading : Result Command UsageKind) (old new : S) (out_old out_new : O) (err_old err_new : E) (result : Result (Unit {0}) Status)
-    (put : Result T PutFault) → reading ≡ command_in words
+    (put : Result T PutFault) → reading ≡ command_in words → IfErr reading (CanMisuse (tool_of words))
+    → IfOk reading (λ command. tool_of words ≡ Some (tool_for command))
     → IfFiles s old (λ files. Does (outcome_for reading files) (status_of result) (o.seen out_old) (o.seen out_new) (s.seen new).files)
     → IfFiles s old (λ files. LeavesFiles reading files (s.seen new).files)
     → MayWriteFiles s o (CanRefuse reading) old new out_old out_new result → OnOk result (is_ok reading ≡ true)
@@ -170,7 +132,7 @@ pub replies : {S F O E T : Type 0} (s : shelf.Ghosts S F) (o : sink.Ghosts O) (e
     → SinkCause (e.faults err_old) (e.faults err_new) put
     → Replies s o e words old new out_old out_new err_old err_new (status_of result)
 unfolding reply
-replies s o e words reading old new out_old out_new err_old err_new result put same does left runs taken shows message cause =
+replies s o e words reading old new out_old out_new err_old err_new result put same kinds named does left runs taken shows message cause =
     let done : IfFiles s old (λ files. Does (outcome_for (command_in words) files) (status_of result) (o.seen out_old) (o.seen out_new) (s.seen new).files) =
     λ told. subst (λ r. Does (outcome_for r (s.seen old).files) (status_of result) (o.seen out_old) (o.seen out_new) (s.seen new).files) same (does told) in
     let refusal = subst (λ r. IfErr result (CanRefuse r)) same runs.refusal in
@@ -181,7 +143,7 @@ replies s o e words reading old new out_old out_new err_old err_new result put s
       stream = λ told. puts_stream (command_in words) (status_of result) _ _ _ _ (done told);
       left = λ told. subst (λ r. LeavesFiles r (s.seen old).files (s.seen new).files) same (left told);
       usage = usage_exact (command_in words) result refusal read;
-      listed = listed (tool_of words) words result refusal read;
+      listed = listed (tool_of words) reading result runs.refusal taken kinds named;
       cause = status_cause _ _ _ result runs.cause;
       flushed = done_flushed (command_in words) result _ refusal runs.flushed;
       message = puts_message _ _ _ _ _ put (subst (λ r. Put (message_for (tool_of words) r (status_of result)) (e.seen err_old) put (e.seen err_new)) same message) cause;

@@ -1,5 +1,5 @@
--- What the words of a command line ask for: the first word names the tool, the others its host files and numbers; or how
--- the words are refused. The rules are ours.
+-- What the words of a command line ask for: the first word names the tool, the others its host files and numbers. Or
+-- how the words are refused. The rules are ours.
 use Rattle.std.specs.Prelude.{◌&&◌, ◌==◌, ℕ, Bool, not, List, [], ◌∷◌, length, get_or, codes, Option, Some, None}
 use Rattle.std.specs.Prelude.{Result, Ok, Err, if◌then◌else◌}
 use Rattle.std.specs.List.{starts_with}
@@ -58,7 +58,7 @@ reading_of (Err kind) = Err kind
 
 -- ---- the words
 
--- the word at a place, with_number from 0
+-- the word at a place, counted from 0
 abbrev pub nth_word : ℕ → List (List ℕ) → List ℕ
 nth_word i words = get_or words i []
 
@@ -102,7 +102,23 @@ tool_command (Some Make) words = make_command words
 abbrev pub command_in : List (List ℕ) → Result Command UsageKind
 command_in words = tool_command (tool_of words) words
 
--- ---- what is known of a request
+-- ---- what is known of words that were read
+
+-- the kinds of Usage that the words of a tool can have; `None` is no tool
+abbrev pub CanMisuse : Option Tool → UsageKind → Type 0
+CanMisuse None usage.Tool = Unit {0}
+CanMisuse (Some Info) usage.Line = Unit {0}
+CanMisuse (Some Cat) usage.Line = Unit {0}
+CanMisuse (Some Cat) usage.Number = Unit {0}
+CanMisuse (Some Make) usage.Line = Unit {0}
+CanMisuse (Some Make) usage.Number = Unit {0}
+CanMisuse tool other = ⊥
+
+-- the tool of a command
+abbrev pub tool_for : Command → Tool
+tool_for (info image) = Info
+tool_for (cat image number) = Cat
+tool_for (make file seed clusters cluster) = Make
 
 -- the numbers of ntfsmake are in the ranges
 abbrev pub HasRanges : Command → Type 0

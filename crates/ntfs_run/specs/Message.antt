@@ -97,9 +97,11 @@ status_text (status.ShortClusters need free) =
 status_text (status.ShortRun need longest) =
     with_number (codes "needs ") need ++ with_number (codes " clusters in a row, longest free run is ") longest
 status_text (status.ShortRoom number need have) =
-    (with_number (codes "record ") number ++ with_number (codes " needs ") need) ++ with_number (codes " bytes, has ") have
+    (with_number (codes "record ") number ++ with_number (codes " needs ") need)
+    ++ with_number (codes " bytes, has ") have
 status_text (status.ShortGeometry kind have need) =
-    ((codes "size out of range: " ++ lack_text kind) ++ with_number (codes " has ") have) ++ with_number (codes ", needs ") need
+    ((codes "size out of range: " ++ lack_text kind) ++ with_number (codes " has ") have)
+    ++ with_number (codes ", needs ") need
 status_text (status.NotFound what) = codes "not found: " ++ missing_text what
 status_text (status.NotPlain flags) = codes "stream is not plain: flags " ++ flags_text flags
 status_text (status.Guarded number kind) =

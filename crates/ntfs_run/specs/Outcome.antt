@@ -121,8 +121,8 @@ pub record Does (outcome : Outcome) (result : Status) (before after : SinkState)
 
 -- a tool that only shows, with the refusals that it has: every file as before, a fault has its cause, and what was done
 -- whole stands flushed
-pub record OnlyShows {S F K : Type 0} (s : shelf.Ghosts S F) (k : sink.Ghosts K) (has : Status → Type 0) (old new : S)
-    (before after : K) (result : Result (Unit {0}) Status) : Type 0 where
+pub record OnlyShows {S F K : Type 0} (s : shelf.Ghosts S F) (k : sink.Ghosts K) (has : Status → Type 0)
+    (old new : S) (before after : K) (result : Result (Unit {0}) Status) : Type 0 where
   pub seen : s.seen new ≡ s.seen old
   pub counts : HaveNotFallen (s.faults old) (s.faults new)
   pub puts : SinkHasNotFallen (k.faults before) (k.faults after)
@@ -132,8 +132,8 @@ pub record OnlyShows {S F K : Type 0} (s : shelf.Ghosts S F) (k : sink.Ghosts K)
   pub flushed : OnOk result (k.is_flushed after ≡ true)
 
 -- a tool that may write files, likewise: the shelf tells its files as before, and has none attached
-pub record MayWriteFiles {S F K : Type 0} (s : shelf.Ghosts S F) (k : sink.Ghosts K) (has : Status → Type 0) (old new : S)
-    (before after : K) (result : Result (Unit {0}) Status) : Type 0 where
+pub record MayWriteFiles {S F K : Type 0} (s : shelf.Ghosts S F) (k : sink.Ghosts K) (has : Status → Type 0)
+    (old new : S) (before after : K) (result : Result (Unit {0}) Status) : Type 0 where
   pub told : (s.seen new).is_told ≡ (s.seen old).is_told
   pub detached : (s.seen new).attached ≡ []
   pub counts : HaveNotFallen (s.faults old) (s.faults new)

@@ -12,7 +12,7 @@ use Rattle.ntfs_base.specs.declared.shelf.Shelf as shelf
 use Rattle.ntfs_base.specs.declared.sink.Sink as sink
 use Rattle.ntfs_base.specs.declared.source.Source as source
 use Rattle.ntfs_run.specs.Cat.{CatRefuses, PutsStream, cat_bytes}
-use Rattle.ntfs_run.specs.Command.{Command, info, cat, make, command_in, tool_of}
+use Rattle.ntfs_run.specs.Command.{CanMisuse, Command, info, cat, make, command_in, tool_for, tool_of}
 use Rattle.ntfs_run.specs.Info.{InfoRefuses, info_bytes}
 use Rattle.ntfs_run.specs.Make.{LeavesFile, MakeRefuses, make_work}
 use Rattle.ntfs_run.specs.Message.{message_of}
@@ -30,27 +30,11 @@ command_outcome (info image) files = shows files (info_bytes image files)
 command_outcome (cat image number) files = shows files (cat_bytes image number files)
 command_outcome (make file seed clusters cluster) files = outcome_of files (make_work file seed clusters cluster files)
 
--- the refusals that a command has, once its words are taken
-abbrev pub CommandRefuses : Command → Status → Type 0
-CommandRefuses (info image) fault = InfoRefuses fault
-CommandRefuses (cat image number) fault = CatRefuses fault
-CommandRefuses (make file seed clusters cluster) fault = MakeRefuses fault
-
--- the statuses that a tool can answer; `None` is no tool
-abbrev pub CanAnswer : Option Tool → Status → Type 0
-CanAnswer None (status.Usage usage.Tool) = Unit {0}
-CanAnswer None other = ⊥
-CanAnswer (Some Info) status.Done = Unit {0}
-CanAnswer (Some Info) (status.Usage usage.Line) = Unit {0}
-CanAnswer (Some Info) other = InfoRefuses other
-CanAnswer (Some Cat) status.Done = Unit {0}
-CanAnswer (Some Cat) (status.Usage usage.Line) = Unit {0}
-CanAnswer (Some Cat) (status.Usage usage.Number) = Unit {0}
-CanAnswer (Some Cat) other = CatRefuses other
-CanAnswer (Some Make) status.Done = Unit {0}
-CanAnswer (Some Make) (status.Usage usage.Line) = Unit {0}
-CanAnswer (Some Make) (status.Usage usage.Number) = Unit {0}
-CanAnswer (Some Make) other = MakeRefuses other
+-- the refusals of a tool, once its words are taken
+abbrev pub ToolRefuses : Tool → Status → Type 0
+ToolRefuses Info fault = InfoRefuses fault
+ToolRefuses Cat fault = CatRefuses fault
+ToolRefuses Make fault = MakeRefuses fault
 
 -- what any exit leaves of the files: a tool that only shows changes none
 abbrev pub CommandLeaves : Command → Files → Files → Type 0
@@ -71,7 +55,7 @@ outcome_for (Err kind) files = refused_with (status.Usage kind) files
 
 -- the refusals that they have
 abbrev pub CanRefuse : Result Command UsageKind → Status → Type 0
-CanRefuse (Ok command) fault = CommandRefuses command fault
+CanRefuse (Ok command) fault = ToolRefuses (tool_for command) fault
 CanRefuse (Err kind) fault = fault ≡ status.Usage kind
 
 abbrev pub LeavesFiles : Result Command UsageKind → Files → Files → Type 0
@@ -91,6 +75,13 @@ PutsIfCat reading other files old new = Unit {0}
 abbrev pub IfDone : Status → Type 0 → Type 0
 IfDone status.Done flushed = flushed
 IfDone other flushed = Unit {0}
+
+-- the statuses of a tool, with those of words that it doesn't take; `None` is no tool
+abbrev pub CanAnswer : Option Tool → Status → Type 0
+CanAnswer tool (status.Usage kind) = CanMisuse tool kind
+CanAnswer (Some tool) status.Done = Unit {0}
+CanAnswer (Some tool) other = ToolRefuses tool other
+CanAnswer None other = ⊥
 
 -- ---- the reply
 

@@ -51,7 +51,8 @@ fn answer<S: Shelf, O: Sink>(
         (status_of result) (O.seen out.old) (O.seen out.new) (S.seen shelf.new).files) }
     ensures left { IfFiles S.Shelf shelf.old (λ files.
         LeavesFiles (reading_of request.entry) files (S.seen shelf.new).files) }
-    ensures runs { MayWriteFiles S.Shelf O.Sink (CanRefuse (reading_of request.entry)) shelf.old shelf.new out.old out.new result }
+    ensures runs { MayWriteFiles S.Shelf O.Sink (CanRefuse (reading_of request.entry)) shelf.old shelf.new
+        out.old out.new result }
     ensures taken { OnOk result (is_ok (reading_of request.entry) ≡ true) }
     ensures shows { KeepsShelf (reading_of request.entry) (S.seen shelf.new ≡ S.seen shelf.old) }
 {

@@ -52,7 +52,8 @@ fn fill<F: HostFile>(alloc: Global, request: &MakeRequest, file: &mut F) -> Resu
     requires size { (F.seen file.old).size ≡ 0 }
     ensures name { (F.seen file.new).name ≡ (F.seen file.old).name }
     ensures made { IfTold F.Image file.old (λ content.
-        OnOk result ((F.seen file.new).content ≡ volume_bytes_of request.now.seed request.now.clusters request.now.cluster)) }
+        OnOk result
+        ((F.seen file.new).content ≡ volume_bytes_of request.now.seed request.now.clusters request.now.cluster)) }
     ensures left { IfTold F.Image file.old (λ content.
         IsPart request.now.seed request.now.clusters request.now.cluster (F.seen file.new).content) }
     ensures writes { OnlyWrites F.Image status_origin file.old file.new result }

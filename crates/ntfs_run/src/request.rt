@@ -1,8 +1,9 @@
 //! What a command line asks for. The first word names the tool.
-ghost use Rattle.std.specs.Prelude.{◌≡◌, ◌≤◌, ℕ, length, map, string_bytes, IfOk, if◌then◌else◌};
+ghost use Rattle.std.specs.Prelude.{◌≡◌, ◌≤◌, ℕ, length, map, string_bytes, IfErr, IfOk, if◌then◌else◌};
 ghost use Rattle.ntfs_make.specs.Shape.{IsShape, shape_of};
-ghost use Rattle.ntfs_run.specs.Command.{HasRanges, cat_command, command_in, command_of, info_command, is_option};
-ghost use Rattle.ntfs_run.specs.Command.{make_command, reading_of, tool_name, tool_named, tool_of};
+ghost use Rattle.ntfs_run.specs.Command.{CanMisuse, HasRanges, cat_command, command_in, command_of, info_command};
+ghost use Rattle.ntfs_run.specs.Command.{is_option};
+ghost use Rattle.ntfs_run.specs.Command.{make_command, reading_of, tool_for, tool_name, tool_named, tool_of};
 ghost use Rattle.ntfs_run.specs.Make.{is_in_range};
 
 use crate::number::number_of;
@@ -77,6 +78,9 @@ pub fn tool_name(tool: Tool) -> &'static str
 pub fn read_request<'a>(words: &'a [String]) -> Result<Request<'a>, UsageKind>
     ensures reading { reading_of result ≡ command_in (map string_bytes words.entry.now) }
     ensures ranges { IfOk result (λ request. HasRanges (command_of request)) }
+    ensures kinds { IfErr result (CanMisuse (tool_of (map string_bytes words.entry.now))) }
+    ensures tool { IfOk result (λ request.
+        tool_of (map string_bytes words.entry.now) ≡ Some (tool_for (command_of request))) }
 {
     match tool_of(words) {
         None => Err(UsageKind::Tool),
@@ -91,6 +95,8 @@ pub fn read_request<'a>(words: &'a [String]) -> Result<Request<'a>, UsageKind>
 fn info_request<'a>(words: &'a [String]) -> Result<Request<'a>, UsageKind>
     ensures reading { reading_of result ≡ info_command (map string_bytes words.entry.now) }
     ensures ranges { IfOk result (λ request. HasRanges (command_of request)) }
+    ensures kinds { IfErr result (CanMisuse (Some Tool.Info)) }
+    ensures tool { IfOk result (λ request. tool_for (command_of request) ≡ Tool.Info) }
 {
     if words.len() == 3 && words[1].as_str() == "-m" && !is_option(words[2].as_str()) {
         Ok(Request::Info {
@@ -106,6 +112,8 @@ fn info_request<'a>(words: &'a [String]) -> Result<Request<'a>, UsageKind>
 fn cat_request<'a>(words: &'a [String]) -> Result<Request<'a>, UsageKind>
     ensures reading { reading_of result ≡ cat_command (map string_bytes words.entry.now) }
     ensures ranges { IfOk result (λ request. HasRanges (command_of request)) }
+    ensures kinds { IfErr result (CanMisuse (Some Tool.Cat)) }
+    ensures tool { IfOk result (λ request. tool_for (command_of request) ≡ Tool.Cat) }
 {
     if words.len() == 4 && words[1].as_str() == "-i" && !is_option(words[3].as_str()) {
         let number = number_of(words[2].as_str()).ok_or(UsageKind::Number)?;
@@ -123,6 +131,8 @@ fn cat_request<'a>(words: &'a [String]) -> Result<Request<'a>, UsageKind>
 fn make_request<'a>(words: &'a [String]) -> Result<Request<'a>, UsageKind>
     ensures reading { reading_of result ≡ make_command (map string_bytes words.entry.now) }
     ensures ranges { IfOk result (λ request. HasRanges (command_of request)) }
+    ensures kinds { IfErr result (CanMisuse (Some Tool.Make)) }
+    ensures tool { IfOk result (λ request. tool_for (command_of request) ≡ Tool.Make) }
 {
     if words.len() == 5 && !is_option(words[1].as_str()) {
         let seed = number_of(words[2].as_str()).ok_or(UsageKind::Number)?;

@@ -9,7 +9,8 @@ use std::alloc::{AllocError, Global};
 use std::process::Abort;
 use std::test::Fail;
 
-/// What stands under `v`: so many bytes of a table's image and then zeros, with these records and these bytes in place of its own.
+/// What stands under `v`: so many bytes of a table's image and then zeros, with these records and these bytes in place
+/// of its own.
 #[derive(Clone, Copy)]
 pub struct Image<'a> {
     pub len: usize,
@@ -28,12 +29,12 @@ impl<'a> Image<'a> {
     }
 
     /// With these records.
-    pub fn with(self, records: &'a [Record<'a>]) -> Image<'a> {
+    pub fn with_records(self, records: &'a [Record<'a>]) -> Image<'a> {
         Image { records, ..self }
     }
 
     /// With these bytes.
-    pub fn damaged(self, damage: &'a [Patch<'a>]) -> Image<'a> {
+    pub fn with_bytes(self, damage: &'a [Patch<'a>]) -> Image<'a> {
         Image { damage, ..self }
     }
 }
@@ -51,7 +52,7 @@ pub struct Case<'a> {
 
 impl<'a> Case<'a> {
     /// Words whose work is done over an image.
-    pub fn done(words: &'a [&'a str], image: Image<'a>, output: &'a [u8]) -> Case<'a> {
+    pub fn puts(words: &'a [&'a str], image: Image<'a>, output: &'a [u8]) -> Case<'a> {
         Case {
             words,
             image,
@@ -63,7 +64,7 @@ impl<'a> Case<'a> {
     }
 
     /// Words that are refused over an image.
-    pub fn refused(
+    pub fn refuses(
         words: &'a [&'a str],
         image: Image<'a>,
         status: Status,
@@ -81,17 +82,17 @@ impl<'a> Case<'a> {
     }
 
     /// The same of other words.
-    pub fn of(self, words: &'a [&'a str]) -> Case<'a> {
+    pub fn with_words(self, words: &'a [&'a str]) -> Case<'a> {
         Case { words, ..self }
     }
 
     /// The same over another image.
-    pub fn over(self, image: Image<'a>) -> Case<'a> {
+    pub fn with_image(self, image: Image<'a>) -> Case<'a> {
         Case { image, ..self }
     }
 
     /// The same with another refusal.
-    pub fn but(self, status: Status, line: &'a str) -> Case<'a> {
+    pub fn with_refusal(self, status: Status, line: &'a str) -> Case<'a> {
         Case {
             status,
             line,

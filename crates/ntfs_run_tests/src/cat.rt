@@ -1,6 +1,6 @@
 //! `ntfscat` over the small volume.
 use crate::case::{Case, Image, all_answer};
-use crate::statuses::{LINE, NO_IMAGE, NUMBER, damaged, no_record, not_plain};
+use crate::statuses::{LINE, NO_IMAGE, NUMBER, damage_of, no_record, not_plain};
 use crate::volume::{
     Attribute, DATA, FIRST, IN_USE, LIST, Record, SMALL_LEN, bare_volume, small_volume, two_runs,
     zeros,
@@ -33,15 +33,15 @@ const TWENTY: [&str; 4] = ["ntfscat", "-i", "20", "v"];
 fn streams_are_put(rt: HostRuntime) -> Result<(), Fail> {
     let alloc = rt.alloc();
     let want = two_runs(alloc)?;
-    let hello = Case::done(&TWENTY, Image::of(SMALL_LEN), b"hello, ntfs\n");
-    let runs = Case::done(&TWENTY, Image::of(SMALL_LEN), &want);
+    let hello = Case::puts(&TWENTY, Image::of(SMALL_LEN), b"hello, ntfs\n");
+    let runs = Case::puts(&TWENTY, Image::of(SMALL_LEN), &want);
     let cases = [
-        hello.of(&["ntfscat", "-i", "16", "v"]),
-        hello.of(&["ntfscat", "-i", "0x10", "v"]),
-        hello.of(&["ntfscat", "-i", "00000000000000000016", "v"]),
-        hello.of(&["ntfscat", "-i", "0x0000000000000010", "v"]),
-        runs.of(&["ntfscat", "-i", "17", "v"]),
-        runs.of(&["ntfscat", "-i", "0x11", "v"]),
+        hello.with_words(&["ntfscat", "-i", "16", "v"]),
+        hello.with_words(&["ntfscat", "-i", "0x10", "v"]),
+        hello.with_words(&["ntfscat", "-i", "00000000000000000016", "v"]),
+        hello.with_words(&["ntfscat", "-i", "0x0000000000000010", "v"]),
+        runs.with_words(&["ntfscat", "-i", "17", "v"]),
+        runs.with_words(&["ntfscat", "-i", "0x11", "v"]),
     ];
     let base = small_volume(alloc).ok_or("no image")?;
     all_answer(&rt, alloc, &base, &cases)
@@ -84,9 +84,9 @@ fn holes_and_empty_streams_are_put(rt: HostRuntime) -> Result<(), Fail> {
     want.extend_from_slice(b"22")?;
     let image = Image::of(SMALL_LEN);
     let cases = [
-        Case::done(&TWENTY, image.with(&[FIRST, HOLE]), &want),
-        Case::done(&TWENTY, image.with(&[FIRST, NO_RUNS]), b""),
-        Case::done(&TWENTY, image.with(&[FIRST, NO_VALUE]), b""),
+        Case::puts(&TWENTY, image.with_records(&[FIRST, HOLE]), &want),
+        Case::puts(&TWENTY, image.with_records(&[FIRST, NO_RUNS]), b""),
+        Case::puts(&TWENTY, image.with_records(&[FIRST, NO_VALUE]), b""),
     ];
     let base = bare_volume(alloc).ok_or("no image")?;
     all_answer(&rt, alloc, &base, &cases)
@@ -95,17 +95,17 @@ fn holes_and_empty_streams_are_put(rt: HostRuntime) -> Result<(), Fail> {
 #[test]
 fn records_are_missing(rt: HostRuntime) -> Result<(), Fail> {
     let alloc = rt.alloc();
-    let missing = Case::refused(&TWENTY, Image::of(SMALL_LEN), no_record(20), 7, "");
+    let missing = Case::refuses(&TWENTY, Image::of(SMALL_LEN), no_record(20), 7, "");
     let cases = [
         missing
-            .of(&["ntfscat", "-i", "18", "v"])
-            .but(no_record(18), "ntfscat: not found: record 18\n"),
+            .with_words(&["ntfscat", "-i", "18", "v"])
+            .with_refusal(no_record(18), "ntfscat: not found: record 18\n"),
         missing
-            .of(&["ntfscat", "-i", "32", "v"])
-            .but(no_record(32), "ntfscat: not found: record 32\n"),
+            .with_words(&["ntfscat", "-i", "32", "v"])
+            .with_refusal(no_record(32), "ntfscat: not found: record 32\n"),
         missing
-            .of(&["ntfscat", "-i", "18446744073709551615", "v"])
-            .but(
+            .with_words(&["ntfscat", "-i", "18446744073709551615", "v"])
+            .with_refusal(
                 no_record(u64::MAX),
                 "ntfscat: not found: record 18446744073709551615\n",
             ),
@@ -128,7 +128,7 @@ const NO_STREAM: Status = Status::NotFound {
 fn streams_are_missing(rt: HostRuntime) -> Result<(), Fail> {
     let alloc = rt.alloc();
     let image = Image::of(SMALL_LEN);
-    let missing = Case::refused(
+    let missing = Case::refuses(
         &TWENTY,
         image,
         no_record(20),
@@ -136,11 +136,11 @@ fn streams_are_missing(rt: HostRuntime) -> Result<(), Fail> {
         "ntfscat: not found: record 20\n",
     );
     let cases = [
-        missing.over(image.with(&[FIRST, FREE])),
-        missing.over(image.with(&[FIRST, EXTENSION])),
+        missing.with_image(image.with_records(&[FIRST, FREE])),
+        missing.with_image(image.with_records(&[FIRST, EXTENSION])),
         missing
-            .over(image.with(&[FIRST, BLANK]))
-            .but(NO_STREAM, "ntfscat: not found: stream\n"),
+            .with_image(image.with_records(&[FIRST, BLANK]))
+            .with_refusal(NO_STREAM, "ntfscat: not found: stream\n"),
     ];
     let base = bare_volume(alloc).ok_or("no image")?;
     all_answer(&rt, alloc, &base, &cases)
@@ -178,17 +178,21 @@ const SPARSE: Record = Record {
 fn streams_that_are_not_plain_are_refused(rt: HostRuntime) -> Result<(), Fail> {
     let alloc = rt.alloc();
     let image = Image::of(SMALL_LEN);
-    let refused = Case::refused(&TWENTY, image, NO_STREAM, 8, "");
+    let refused = Case::refuses(&TWENTY, image, NO_STREAM, 8, "");
     let cases = [
-        refused.over(image.with(&[FIRST, COMPRESSED])).but(
-            not_plain(0x0001),
-            "ntfscat: stream is not plain: flags 0x0001\n",
-        ),
-        refused.over(image.with(&[FIRST, ENCRYPTED])).but(
-            not_plain(0x4000),
-            "ntfscat: stream is not plain: flags 0x4000\n",
-        ),
-        Case::done(&TWENTY, image.with(&[FIRST, SPARSE]), b"text"),
+        refused
+            .with_image(image.with_records(&[FIRST, COMPRESSED]))
+            .with_refusal(
+                not_plain(0x0001),
+                "ntfscat: stream is not plain: flags 0x0001\n",
+            ),
+        refused
+            .with_image(image.with_records(&[FIRST, ENCRYPTED]))
+            .with_refusal(
+                not_plain(0x4000),
+                "ntfscat: stream is not plain: flags 0x4000\n",
+            ),
+        Case::puts(&TWENTY, image.with_records(&[FIRST, SPARSE]), b"text"),
     ];
     let base = bare_volume(alloc).ok_or("no image")?;
     all_answer(&rt, alloc, &base, &cases)
@@ -237,31 +241,34 @@ const PLACE: usize = 24 * 1024;
 fn damaged_records_are_refused(rt: HostRuntime) -> Result<(), Fail> {
     let alloc = rt.alloc();
     let image = Image::of(SMALL_LEN);
-    let text = image.with(&[FIRST, TEXT]);
-    let c4 = Case::refused(
+    let text = image.with_records(&[FIRST, TEXT]);
+    let c4 = Case::refuses(
         &TWENTY,
         text,
-        damaged(Rule::C4, 20),
+        damage_of(Rule::C4, 20),
         4,
         "ntfscat: damaged: rule C4 record 20\n",
     );
     let cases = [
         // A check word is torn, the number is another one, more bytes are in use than there are.
-        c4.over(text.damaged(&[(PLACE + 0x1FE, &[9])])),
-        c4.over(text.damaged(&[(PLACE + 0x2C, &[21])])),
-        c4.over(text.damaged(&[(PLACE + 0x19, &[5])])),
-        c4.over(image.with(&[FIRST, BAD_PAIRS])).but(
-            damaged(Rule::C7, 20),
-            "ntfscat: damaged: rule C7 record 20\n",
-        ),
-        c4.over(image.with(&[FIRST, LONG_SIZE])).but(
-            damaged(Rule::C12, 20),
-            "ntfscat: damaged: rule C12 record 20\n",
-        ),
-        c4.over(image.with(&[FIRST, LISTED])).but(
-            damaged(Rule::C11, 20),
-            "ntfscat: damaged: rule C11 record 20\n",
-        ),
+        c4.with_image(text.with_bytes(&[(PLACE + 0x1FE, &[9])])),
+        c4.with_image(text.with_bytes(&[(PLACE + 0x2C, &[21])])),
+        c4.with_image(text.with_bytes(&[(PLACE + 0x19, &[5])])),
+        c4.with_image(image.with_records(&[FIRST, BAD_PAIRS]))
+            .with_refusal(
+                damage_of(Rule::C7, 20),
+                "ntfscat: damaged: rule C7 record 20\n",
+            ),
+        c4.with_image(image.with_records(&[FIRST, LONG_SIZE]))
+            .with_refusal(
+                damage_of(Rule::C12, 20),
+                "ntfscat: damaged: rule C12 record 20\n",
+            ),
+        c4.with_image(image.with_records(&[FIRST, LISTED]))
+            .with_refusal(
+                damage_of(Rule::C11, 20),
+                "ntfscat: damaged: rule C11 record 20\n",
+            ),
     ];
     let base = bare_volume(alloc).ok_or("no image")?;
     all_answer(&rt, alloc, &base, &cases)
@@ -320,20 +327,20 @@ fn volumes_without_a_map_are_refused(rt: HostRuntime) -> Result<(), Fail> {
     let alloc = rt.alloc();
     let image = Image::of(SMALL_LEN);
     let words = ["ntfscat", "-i", "16", "v"];
-    let c3 = Case::refused(
+    let c3 = Case::refuses(
         &words,
         image,
-        damaged(Rule::C3, 0),
+        damage_of(Rule::C3, 0),
         4,
         "ntfscat: damaged: rule C3 record 0\n",
     );
     let cases = [
         c3,
-        c3.over(image.with(&[FREE_FIRST])),
-        c3.over(image.with(&[BLANK_FIRST])),
-        c3.over(image.with(&[HOLE_FIRST])),
-        c3.over(image.with(&[SHORT_FIRST])),
-        c3.over(image.with(&[LISTED_FIRST])),
+        c3.with_image(image.with_records(&[FREE_FIRST])),
+        c3.with_image(image.with_records(&[BLANK_FIRST])),
+        c3.with_image(image.with_records(&[HOLE_FIRST])),
+        c3.with_image(image.with_records(&[SHORT_FIRST])),
+        c3.with_image(image.with_records(&[LISTED_FIRST])),
     ];
     let base = bare_volume(alloc).ok_or("no image")?;
     all_answer(&rt, alloc, &base, &cases)
@@ -342,7 +349,7 @@ fn volumes_without_a_map_are_refused(rt: HostRuntime) -> Result<(), Fail> {
 #[test]
 fn spellings_are_no_numbers(rt: HostRuntime) -> Result<(), Fail> {
     let alloc = rt.alloc();
-    let refused = Case::refused(
+    let refused = Case::refuses(
         &TWENTY,
         Image::of(SMALL_LEN),
         NUMBER,
@@ -350,12 +357,12 @@ fn spellings_are_no_numbers(rt: HostRuntime) -> Result<(), Fail> {
         "ntfscat: usage: number\n",
     );
     let cases = [
-        refused.of(&["ntfscat", "-i", "", "v"]),
-        refused.of(&["ntfscat", "-i", "+16", "v"]),
-        refused.of(&["ntfscat", "-i", "-16", "v"]),
-        refused.of(&["ntfscat", "-i", "16 ", "v"]),
-        refused.of(&["ntfscat", "-i", "1_6", "v"]),
-        refused.of(&["ntfscat", "-i", "0x", "v"]),
+        refused.with_words(&["ntfscat", "-i", "", "v"]),
+        refused.with_words(&["ntfscat", "-i", "+16", "v"]),
+        refused.with_words(&["ntfscat", "-i", "-16", "v"]),
+        refused.with_words(&["ntfscat", "-i", "16 ", "v"]),
+        refused.with_words(&["ntfscat", "-i", "1_6", "v"]),
+        refused.with_words(&["ntfscat", "-i", "0x", "v"]),
     ];
     let base = small_volume(alloc).ok_or("no image")?;
     all_answer(&rt, alloc, &base, &cases)
@@ -364,7 +371,7 @@ fn spellings_are_no_numbers(rt: HostRuntime) -> Result<(), Fail> {
 #[test]
 fn long_and_odd_spellings_are_no_numbers(rt: HostRuntime) -> Result<(), Fail> {
     let alloc = rt.alloc();
-    let refused = Case::refused(
+    let refused = Case::refuses(
         &TWENTY,
         Image::of(SMALL_LEN),
         NUMBER,
@@ -372,12 +379,12 @@ fn long_and_odd_spellings_are_no_numbers(rt: HostRuntime) -> Result<(), Fail> {
         "ntfscat: usage: number\n",
     );
     let cases = [
-        refused.of(&["ntfscat", "-i", "0X10", "v"]),
-        refused.of(&["ntfscat", "-i", "0x+1", "v"]),
-        refused.of(&["ntfscat", "-i", "x10", "v"]),
-        refused.of(&["ntfscat", "-i", "000000000000000000016", "v"]),
-        refused.of(&["ntfscat", "-i", "18446744073709551616", "v"]),
-        refused.of(&["ntfscat", "-i", "0x00000000000000010", "v"]),
+        refused.with_words(&["ntfscat", "-i", "0X10", "v"]),
+        refused.with_words(&["ntfscat", "-i", "0x+1", "v"]),
+        refused.with_words(&["ntfscat", "-i", "x10", "v"]),
+        refused.with_words(&["ntfscat", "-i", "000000000000000000016", "v"]),
+        refused.with_words(&["ntfscat", "-i", "18446744073709551616", "v"]),
+        refused.with_words(&["ntfscat", "-i", "0x00000000000000010", "v"]),
     ];
     let base = small_volume(alloc).ok_or("no image")?;
     all_answer(&rt, alloc, &base, &cases)
@@ -385,8 +392,8 @@ fn long_and_odd_spellings_are_no_numbers(rt: HostRuntime) -> Result<(), Fail> {
 
 #[test]
 fn words_of_ntfscat_are_refused(rt: HostRuntime) -> Result<(), Fail> {
-    let line = Case::refused(&TWENTY, Image::of(0), LINE, 1, "ntfscat: usage: line\n");
-    let absent = Case::refused(
+    let line = Case::refuses(&TWENTY, Image::of(0), LINE, 1, "ntfscat: usage: line\n");
+    let absent = Case::refuses(
         &TWENTY,
         Image::of(0),
         NO_IMAGE,
@@ -394,12 +401,12 @@ fn words_of_ntfscat_are_refused(rt: HostRuntime) -> Result<(), Fail> {
         "ntfscat: no such file: w\n",
     );
     let cases = [
-        line.of(&["ntfscat"]),
-        line.of(&["ntfscat", "-i", "16"]),
-        line.of(&["ntfscat", "-m", "16", "v"]),
-        line.of(&["ntfscat", "-i", "16", "-v"]),
-        line.of(&["ntfscat", "-i", "16", "v", "v"]),
-        absent.of(&["ntfscat", "-i", "16", "w"]),
+        line.with_words(&["ntfscat"]),
+        line.with_words(&["ntfscat", "-i", "16"]),
+        line.with_words(&["ntfscat", "-m", "16", "v"]),
+        line.with_words(&["ntfscat", "-i", "16", "-v"]),
+        line.with_words(&["ntfscat", "-i", "16", "v", "v"]),
+        absent.with_words(&["ntfscat", "-i", "16", "w"]),
     ];
     all_answer(&rt, rt.alloc(), b"", &cases)
 }

@@ -249,8 +249,8 @@ fn a_fault_of_the_output_of_ntfsmake_leaves_no_file(rt: HostRuntime) -> Result<(
     Ok(())
 }
 
-/// A call on the file fails: there is no file, or one that is empty, or has its length and clusters that are zero or the
-/// volume's.
+/// A call on the file fails: there is no file, or one that is empty, or has its length and clusters that are zero or
+/// the volume's.
 fn leaves_a_part(rt: &impl Abort, alloc: Global, plan: Plan, made: &[u8]) -> Result<(), Fail> {
     let blank = zeros(alloc, 1024)?;
     let ran = is_cut(rt, alloc, None, plan, &MAKE_FAULT)?;

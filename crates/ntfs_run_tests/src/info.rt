@@ -5,12 +5,26 @@ use crate::volume::{BOOT, BOOT_LEN, image_of};
 use ntfs_run::Status;
 use std::test::Fail;
 
-pub const LINES: &[u8] =
-    b"sector size: 512\ncluster size: 4096\nrecord size: 1024\nindex block size: 4096\nsectors: 8192\nclusters: 1024\nmft cluster: 3\nmirror cluster: 12\nserial: 0000000000000000\n";
+pub const LINES: &[u8] = b"sector size: 512\n\
+    cluster size: 4096\n\
+    record size: 1024\n\
+    index block size: 4096\n\
+    sectors: 8192\n\
+    clusters: 1024\n\
+    mft cluster: 3\n\
+    mirror cluster: 12\n\
+    serial: 0000000000000000\n";
 
 /// The lines of a volume with seven sectors more, which fill no cluster, and the serial number 1.
-pub const ODD_LINES: &[u8] =
-    b"sector size: 512\ncluster size: 4096\nrecord size: 1024\nindex block size: 4096\nsectors: 8199\nclusters: 1024\nmft cluster: 3\nmirror cluster: 12\nserial: 0000000000000001\n";
+pub const ODD_LINES: &[u8] = b"sector size: 512\n\
+    cluster size: 4096\n\
+    record size: 1024\n\
+    index block size: 4096\n\
+    sectors: 8199\n\
+    clusters: 1024\n\
+    mft cluster: 3\n\
+    mirror cluster: 12\n\
+    serial: 0000000000000001\n";
 
 pub const INFO: [&str; 3] = ["ntfsinfo", "-m", "v"];
 
@@ -19,10 +33,10 @@ fn geometry_is_printed(rt: HostRuntime) -> Result<(), Fail> {
     let alloc = rt.alloc();
     let whole = Image::of(BOOT_LEN);
     let cases = [
-        Case::done(&INFO, whole, LINES),
-        Case::done(
+        Case::puts(&INFO, whole, LINES),
+        Case::puts(
             &INFO,
-            whole.damaged(&[(0x28, &[0x07]), (0x48, &[1])]),
+            whole.with_bytes(&[(0x28, &[0x07]), (0x48, &[1])]),
             ODD_LINES,
         ),
     ];
@@ -33,17 +47,17 @@ fn geometry_is_printed(rt: HostRuntime) -> Result<(), Fail> {
 #[test]
 fn words_are_refused(rt: HostRuntime) -> Result<(), Fail> {
     let empty = Image::of(0);
-    let tool = Case::refused(&[], empty, TOOL, 1, "ntfsprogs: usage: tool\n");
-    let line = Case::refused(&[], empty, LINE, 1, "ntfsinfo: usage: line\n");
-    let absent = Case::refused(&[], empty, NO_IMAGE, 2, "ntfsinfo: no such file: w\n");
+    let tool = Case::refuses(&[], empty, TOOL, 1, "ntfsprogs: usage: tool\n");
+    let line = Case::refuses(&[], empty, LINE, 1, "ntfsinfo: usage: line\n");
+    let absent = Case::refuses(&[], empty, NO_IMAGE, 2, "ntfsinfo: no such file: w\n");
     let cases = [
         tool,
-        tool.of(&["ntfsfind", "-m", "v"]),
-        line.of(&["ntfsinfo", "-m"]),
-        line.of(&["ntfsinfo", "-m", "-v"]),
-        line.of(&["ntfsinfo", "m", "v"]),
-        line.of(&["ntfsinfo", "-m", "v", "w"]),
-        absent.of(&["ntfsinfo", "-m", "w"]),
+        tool.with_words(&["ntfsfind", "-m", "v"]),
+        line.with_words(&["ntfsinfo", "-m"]),
+        line.with_words(&["ntfsinfo", "-m", "-v"]),
+        line.with_words(&["ntfsinfo", "m", "v"]),
+        line.with_words(&["ntfsinfo", "-m", "v", "w"]),
+        absent.with_words(&["ntfsinfo", "-m", "w"]),
     ];
     all_answer(&rt, rt.alloc(), b"", &cases)
 }
@@ -51,8 +65,8 @@ fn words_are_refused(rt: HostRuntime) -> Result<(), Fail> {
 #[test]
 fn images_are_refused(rt: HostRuntime) -> Result<(), Fail> {
     let sector = Image::of(512);
-    let cut = Image::of(4_194_303).damaged(&BOOT);
-    let refused = Case::refused(
+    let cut = Image::of(4_194_303).with_bytes(&BOOT);
+    let refused = Case::refuses(
         &INFO,
         sector,
         Status::NotNtfs,
@@ -60,16 +74,18 @@ fn images_are_refused(rt: HostRuntime) -> Result<(), Fail> {
         "ntfsinfo: not an NTFS volume\n",
     );
     let cases = [
-        refused.over(Image::of(511)).but(
+        refused.with_image(Image::of(511)).with_refusal(
             image_short(511, 512),
             "ntfsinfo: image has 511 bytes, needs 512\n",
         ),
         refused,
-        refused.over(sector.damaged(&[(3, b"NTFS    ")])).but(
-            bad_geometry(1, 0),
-            "ntfsinfo: bad geometry: field 1 value 0\n",
-        ),
-        refused.over(cut).but(
+        refused
+            .with_image(sector.with_bytes(&[(3, b"NTFS    ")]))
+            .with_refusal(
+                bad_geometry(1, 0),
+                "ntfsinfo: bad geometry: field 1 value 0\n",
+            ),
+        refused.with_image(cut).with_refusal(
             image_short(4_194_303, 4_194_304),
             "ntfsinfo: image has 4194303 bytes, needs 4194304\n",
         ),
@@ -81,42 +97,56 @@ fn images_are_refused(rt: HostRuntime) -> Result<(), Fail> {
 fn each_field_is_refused(rt: HostRuntime) -> Result<(), Fail> {
     let alloc = rt.alloc();
     let sector = Image::of(512);
-    let refused = Case::refused(&INFO, sector, Status::NotNtfs, 3, "");
+    let refused = Case::refuses(&INFO, sector, Status::NotNtfs, 3, "");
     let cases = [
-        refused.over(sector.damaged(&[(0x0B, &[0x01])])).but(
-            bad_geometry(1, 513),
-            "ntfsinfo: bad geometry: field 1 value 513\n",
-        ),
-        refused.over(sector.damaged(&[(0x0D, &[3])])).but(
-            bad_geometry(2, 3),
-            "ntfsinfo: bad geometry: field 2 value 3\n",
-        ),
         refused
-            .over(sector.damaged(&[(0x0B, &[0x00, 0x04, 128])]))
-            .but(
+            .with_image(sector.with_bytes(&[(0x0B, &[0x01])]))
+            .with_refusal(
+                bad_geometry(1, 513),
+                "ntfsinfo: bad geometry: field 1 value 513\n",
+            ),
+        refused
+            .with_image(sector.with_bytes(&[(0x0D, &[3])]))
+            .with_refusal(
+                bad_geometry(2, 3),
+                "ntfsinfo: bad geometry: field 2 value 3\n",
+            ),
+        refused
+            .with_image(sector.with_bytes(&[(0x0B, &[0x00, 0x04, 128])]))
+            .with_refusal(
                 bad_geometry(3, 131_072),
                 "ntfsinfo: bad geometry: field 3 value 131072\n",
             ),
-        refused.over(sector.damaged(&[(0x40, &[0xF7])])).but(
-            bad_geometry(4, 0xF7),
-            "ntfsinfo: bad geometry: field 4 value 247\n",
-        ),
-        refused.over(sector.damaged(&[(0x44, &[0])])).but(
-            bad_geometry(5, 0),
-            "ntfsinfo: bad geometry: field 5 value 0\n",
-        ),
-        refused.over(sector.damaged(&[(0x28, &[7, 0])])).but(
-            bad_geometry(6, 7),
-            "ntfsinfo: bad geometry: field 6 value 7\n",
-        ),
-        refused.over(sector.damaged(&[(0x30, &[0x00, 0x04])])).but(
-            bad_geometry(7, 1024),
-            "ntfsinfo: bad geometry: field 7 value 1024\n",
-        ),
-        refused.over(sector.damaged(&[(0x38, &[0x00, 0x04])])).but(
-            bad_geometry(8, 1024),
-            "ntfsinfo: bad geometry: field 8 value 1024\n",
-        ),
+        refused
+            .with_image(sector.with_bytes(&[(0x40, &[0xF7])]))
+            .with_refusal(
+                bad_geometry(4, 0xF7),
+                "ntfsinfo: bad geometry: field 4 value 247\n",
+            ),
+        refused
+            .with_image(sector.with_bytes(&[(0x44, &[0])]))
+            .with_refusal(
+                bad_geometry(5, 0),
+                "ntfsinfo: bad geometry: field 5 value 0\n",
+            ),
+        refused
+            .with_image(sector.with_bytes(&[(0x28, &[7, 0])]))
+            .with_refusal(
+                bad_geometry(6, 7),
+                "ntfsinfo: bad geometry: field 6 value 7\n",
+            ),
+        refused
+            .with_image(sector.with_bytes(&[(0x30, &[0x00, 0x04])]))
+            .with_refusal(
+                bad_geometry(7, 1024),
+                "ntfsinfo: bad geometry: field 7 value 1024\n",
+            ),
+        refused
+            .with_image(sector.with_bytes(&[(0x38, &[0x00, 0x04])]))
+            .with_refusal(
+                bad_geometry(8, 1024),
+                "ntfsinfo: bad geometry: field 8 value 1024\n",
+            ),
     ];
     let base = image_of(alloc, 512, &BOOT).ok_or("no image")?;
     all_answer(&rt, alloc, &base, &cases)

@@ -36,51 +36,51 @@ fn a_made_volume_stays(rt: HostRuntime) -> Result<(), Fail> {
     let mut shelf = MemShelf::new(alloc);
     let empty = Image::of(0);
     let cases = [
-        Case::done(&MAKE, empty, b""),
-        Case::done(&INFO, empty, LINES),
-        Case::refused(&MAKE, empty, OUTPUT_THERE, 2, "ntfsmake: file exists: v\n"),
-        Case::done(&["ntfsmake", "w", "0x1", "1024", "0x1000"], empty, b""),
-        Case::done(&["ntfsinfo", "-m", "w"], empty, ODD_LINES),
-        Case::done(&INFO, empty, LINES),
+        Case::puts(&MAKE, empty, b""),
+        Case::puts(&INFO, empty, LINES),
+        Case::refuses(&MAKE, empty, OUTPUT_THERE, 2, "ntfsmake: file exists: v\n"),
+        Case::puts(&["ntfsmake", "w", "0x1", "1024", "0x1000"], empty, b""),
+        Case::puts(&["ntfsinfo", "-m", "w"], empty, ODD_LINES),
+        Case::puts(&INFO, empty, LINES),
     ];
     all_follow(&rt, alloc, &mut shelf, &cases)
 }
 
 #[test]
 fn numbers_of_clusters_are_refused(rt: HostRuntime) -> Result<(), Fail> {
-    let number = Case::refused(&MAKE, Image::of(0), NUMBER, 1, "ntfsmake: usage: number\n");
+    let number = Case::refuses(&MAKE, Image::of(0), NUMBER, 1, "ntfsmake: usage: number\n");
     let cases = [
-        number.of(&["ntfsmake", "n", "x", "1024", "4096"]),
-        number.of(&["ntfsmake", "n", "0", "", "4096"]),
-        number.of(&["ntfsmake", "n", "0", "1024", "4k"]),
-        number.of(&["ntfsmake", "n", "0", "1023", "4096"]),
-        number.of(&["ntfsmake", "n", "0", "1048577", "4096"]),
-        number.of(&["ntfsmake", "n", "0", "2047", "512"]),
+        number.with_words(&["ntfsmake", "n", "x", "1024", "4096"]),
+        number.with_words(&["ntfsmake", "n", "0", "", "4096"]),
+        number.with_words(&["ntfsmake", "n", "0", "1024", "4k"]),
+        number.with_words(&["ntfsmake", "n", "0", "1023", "4096"]),
+        number.with_words(&["ntfsmake", "n", "0", "1048577", "4096"]),
+        number.with_words(&["ntfsmake", "n", "0", "2047", "512"]),
     ];
     all_answer(&rt, rt.alloc(), b"", &cases)
 }
 
 #[test]
 fn sizes_and_large_numbers_are_refused(rt: HostRuntime) -> Result<(), Fail> {
-    let number = Case::refused(&MAKE, Image::of(0), NUMBER, 1, "ntfsmake: usage: number\n");
+    let number = Case::refuses(&MAKE, Image::of(0), NUMBER, 1, "ntfsmake: usage: number\n");
     let cases = [
-        number.of(&["ntfsmake", "n", "0", "1024", "1000"]),
-        number.of(&["ntfsmake", "n", "0", "1024", "256"]),
-        number.of(&["ntfsmake", "n", "0", "1024", "131072"]),
-        number.of(&["ntfsmake", "n", "0", "4294968320", "4096"]),
-        number.of(&["ntfsmake", "n", "18446744073709551616", "1024", "4096"]),
+        number.with_words(&["ntfsmake", "n", "0", "1024", "1000"]),
+        number.with_words(&["ntfsmake", "n", "0", "1024", "256"]),
+        number.with_words(&["ntfsmake", "n", "0", "1024", "131072"]),
+        number.with_words(&["ntfsmake", "n", "0", "4294968320", "4096"]),
+        number.with_words(&["ntfsmake", "n", "18446744073709551616", "1024", "4096"]),
     ];
     all_answer(&rt, rt.alloc(), b"", &cases)
 }
 
 #[test]
 fn words_of_ntfsmake_are_refused(rt: HostRuntime) -> Result<(), Fail> {
-    let line = Case::refused(&MAKE, Image::of(0), LINE, 1, "ntfsmake: usage: line\n");
+    let line = Case::refuses(&MAKE, Image::of(0), LINE, 1, "ntfsmake: usage: line\n");
     let cases = [
-        line.of(&["ntfsmake"]),
-        line.of(&["ntfsmake", "n", "0", "1024"]),
-        line.of(&["ntfsmake", "-n", "0", "1024", "4096"]),
-        line.of(&["ntfsmake", "n", "0", "1024", "4096", "v"]),
+        line.with_words(&["ntfsmake"]),
+        line.with_words(&["ntfsmake", "n", "0", "1024"]),
+        line.with_words(&["ntfsmake", "-n", "0", "1024", "4096"]),
+        line.with_words(&["ntfsmake", "n", "0", "1024", "4096", "v"]),
     ];
     all_answer(&rt, rt.alloc(), b"", &cases)
 }

@@ -1,5 +1,5 @@
-//! Each tool with all the memory that it asks for, or without some of it. `tools/refused_memory.py` has each allocation refused in
-//! turn.
+//! Each tool with all the memory that it asks for, or without some of it. `tools/refused_memory.py` has each allocation
+//! refused in turn.
 use crate::case::{NO_FAULT, run_over};
 use crate::info::{INFO, LINES};
 use crate::volume::{BOOT, BOOT_LEN, image_of, small_volume, two_runs};
@@ -31,8 +31,8 @@ fn info_is_whole(rt: &impl Abort, host: &HostRuntime) -> Result<bool, Fail> {
     Ok(false)
 }
 
-/// Runs `ntfscat`: whether it was done. Where it wasn't, memory was wanting, a front of the stream was put, and nothing is
-/// changed.
+/// Runs `ntfscat`: whether it was done. Where it wasn't, memory was wanting, a front of the stream was put, and nothing
+/// is changed.
 fn cat_is_whole(rt: &impl Abort, host: &HostRuntime) -> Result<bool, Fail> {
     let alloc = host.alloc();
     let (Ok(want), Some(before), Some(volume)) = (
@@ -60,8 +60,8 @@ fn cat_is_whole(rt: &impl Abort, host: &HostRuntime) -> Result<bool, Fail> {
 /// The length of a volume of 1,024 clusters of 1,024 bytes, with the copy of its boot sector.
 const MADE_LEN: usize = 1_049_600;
 
-/// Runs `ntfsmake`: whether it was done. Where it wasn't, memory was wanting, and there is no file, or one that is empty or has its
-/// length.
+/// Runs `ntfsmake`: whether it was done. Where it wasn't, memory was wanting, and there is no file, or one that is
+/// empty or has its length.
 fn make_is_whole(rt: &impl Abort, host: &HostRuntime) -> Result<bool, Fail> {
     let alloc = host.alloc();
     let words = ["ntfsmake", "v", "2", "1024", "1024"];

@@ -1,6 +1,6 @@
 //! The message line of each status.
 use crate::statuses::{
-    LINE, NO_IMAGE, NUMBER, TOOL, bad_geometry, damaged, guarded, image_short, no_geometry,
+    LINE, NO_IMAGE, NUMBER, TOOL, bad_geometry, damage_of, guarded, image_short, no_geometry,
     no_record, not_plain,
 };
 use ntfs_base::{Lack, MemSink, Missing, Named, Rule, UsageKind};
@@ -178,14 +178,14 @@ fn streams_that_are_refused_have_their_texts(rt: HostRuntime) -> Result<(), Fail
 #[test]
 fn the_first_rules_have_their_names(rt: HostRuntime) -> Result<(), Fail> {
     let rows = [
-        (damaged(Rule::C1, 33), 4, "damaged: rule C1 record 33"),
-        (damaged(Rule::C2, 33), 4, "damaged: rule C2 record 33"),
-        (damaged(Rule::C3, 33), 4, "damaged: rule C3 record 33"),
-        (damaged(Rule::C4, 33), 4, "damaged: rule C4 record 33"),
-        (damaged(Rule::C5, 33), 4, "damaged: rule C5 record 33"),
-        (damaged(Rule::C6, 33), 4, "damaged: rule C6 record 33"),
-        (damaged(Rule::C7, 33), 4, "damaged: rule C7 record 33"),
-        (damaged(Rule::C8, 33), 4, "damaged: rule C8 record 33"),
+        (damage_of(Rule::C1, 33), 4, "damaged: rule C1 record 33"),
+        (damage_of(Rule::C2, 33), 4, "damaged: rule C2 record 33"),
+        (damage_of(Rule::C3, 33), 4, "damaged: rule C3 record 33"),
+        (damage_of(Rule::C4, 33), 4, "damaged: rule C4 record 33"),
+        (damage_of(Rule::C5, 33), 4, "damaged: rule C5 record 33"),
+        (damage_of(Rule::C6, 33), 4, "damaged: rule C6 record 33"),
+        (damage_of(Rule::C7, 33), 4, "damaged: rule C7 record 33"),
+        (damage_of(Rule::C8, 33), 4, "damaged: rule C8 record 33"),
     ];
     all_say(&rt, rt.alloc(), &rows)
 }
@@ -193,14 +193,14 @@ fn the_first_rules_have_their_names(rt: HostRuntime) -> Result<(), Fail> {
 #[test]
 fn the_last_rules_have_their_names(rt: HostRuntime) -> Result<(), Fail> {
     let rows = [
-        (damaged(Rule::C9, 33), 4, "damaged: rule C9 record 33"),
-        (damaged(Rule::C10, 33), 4, "damaged: rule C10 record 33"),
-        (damaged(Rule::C11, 33), 4, "damaged: rule C11 record 33"),
-        (damaged(Rule::C12, 33), 4, "damaged: rule C12 record 33"),
-        (damaged(Rule::C13, 33), 4, "damaged: rule C13 record 33"),
-        (damaged(Rule::C14, 33), 4, "damaged: rule C14 record 33"),
-        (damaged(Rule::C15, 33), 4, "damaged: rule C15 record 33"),
-        (damaged(Rule::C16, 33), 4, "damaged: rule C16 record 33"),
+        (damage_of(Rule::C9, 33), 4, "damaged: rule C9 record 33"),
+        (damage_of(Rule::C10, 33), 4, "damaged: rule C10 record 33"),
+        (damage_of(Rule::C11, 33), 4, "damaged: rule C11 record 33"),
+        (damage_of(Rule::C12, 33), 4, "damaged: rule C12 record 33"),
+        (damage_of(Rule::C13, 33), 4, "damaged: rule C13 record 33"),
+        (damage_of(Rule::C14, 33), 4, "damaged: rule C14 record 33"),
+        (damage_of(Rule::C15, 33), 4, "damaged: rule C15 record 33"),
+        (damage_of(Rule::C16, 33), 4, "damaged: rule C16 record 33"),
     ];
     all_say(&rt, rt.alloc(), &rows)
 }

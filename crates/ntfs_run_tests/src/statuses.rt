@@ -28,7 +28,7 @@ pub fn image_short(len: u64, need: u64) -> Status {
     Status::ImageShort { len, need }
 }
 
-pub fn damaged(rule: Rule, number: u64) -> Status {
+pub fn damage_of(rule: Rule, number: u64) -> Status {
     Status::Damaged { rule, number }
 }
 

@@ -1,5 +1,5 @@
-//! Images byte by byte: bytes at places of zeros, and file records. The small volume has sectors of 512 bytes, clusters and
-//! records of 1,024, and $MFT's 32 records from cluster 4 on.
+//! Images byte by byte: bytes at places of zeros, and file records. The small volume has sectors of 512 bytes, clusters
+//! and records of 1,024, and $MFT's 32 records from cluster 4 on.
 ghost use Rattle.std.specs.Prelude.{◌≡◌, IfOk, vec_len};
 
 use std::alloc::{AllocError, Global};
@@ -7,8 +7,8 @@ use std::alloc::{AllocError, Global};
 /// Bytes at a place.
 pub type Patch<'a> = (usize, &'a [u8]);
 
-/// The boot sector of a volume of 1,024 clusters of 4,096 bytes: name, bytes a sector, sectors a cluster, sectors, clusters of
-/// $MFT and of its mirror, sizes of a record and of an index block.
+/// The boot sector of a volume of 1,024 clusters of 4,096 bytes: name, bytes a sector, sectors a cluster, sectors,
+/// clusters of $MFT and of its mirror, sizes of a record and of an index block.
 pub const BOOT: [Patch; 8] = [
     (0x03, b"NTFS    "),
     (0x0B, &[0x00, 0x02]),
