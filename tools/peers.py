@@ -1,11 +1,11 @@
 #!/usr/bin/env python3
 """Compares the tools with those of the stock package ntfs-3g, where it is installed.
 
-Volumes that `mkntfs` makes and `ntfscp` fills are shown by both: the geometry by `ntfsinfo -m`, and the unnamed stream
-of each record by `ntfscat`. Volumes of `ntfsmake` with each size of clusters are shown by the stock `ntfsinfo`, `ntfsls`
-and `ntfscat`; what they say of those that they refuse is printed. They took all with clusters of up to 8,192 bytes and
-refused the larger ones, so a refusal counts as a difference up to that size alone. Usage: tools/peers.py. It ends with 1
-where an answer differs. The repository is only read, but for the built program.
+Volumes that `mkntfs` makes and `ntfscp` fills are shown by both: the geometry by `ntfsinfo -m`, and the unnamed
+stream of each record by `ntfscat`. Volumes of `ntfsmake` with each size of clusters are shown by the stock
+`ntfsinfo`, `ntfsls` and `ntfscat`; what they say of those that they refuse is printed. They took all with clusters of
+up to 8,192 bytes and refused the larger ones, so a refusal counts as a difference up to that size alone. Usage:
+tools/peers.py. It ends with 1 where an answer differs. The repository is only read, but for the built program.
 """
 
 import pathlib

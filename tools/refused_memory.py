@@ -1,11 +1,12 @@
 #!/usr/bin/env python3
-"""Has each allocation of some work refused in turn, and says how the work ended then: whole, in want of memory, or wrong.
+"""Has each allocation of some work refused in turn, and says how the work ended then: whole, in want of memory, or
+wrong.
 
-The work is what the functions named `..._is_whole` and `..._are_whole` in the tests of the crates do: each answers whether
-all was done, and fails where something is wrong. `rt try --test --fail-alloc N` refuses the Nth allocation of each test.
-So this script writes N tests for each of these functions into a copy of the repository. They take 0, 1, 2 .. allocations
-before the function begins, so that together they refuse each allocation of it. Of the last tests none may miss one, else
-N is too small.
+The work is what the functions named `..._is_whole` and `..._are_whole` in the tests of the crates do: each answers
+whether all was done, and fails where something is wrong. `rt try --test --fail-alloc N` refuses the Nth allocation of
+each test. So this script writes N tests for each of these functions into a copy of the repository. They take 0, 1, 2
+.. allocations before the function begins, so that together they refuse each allocation of it. Of the last tests none
+may miss one, else N is too small.
 
 Usage: tools/refused_memory.py [CRATE ..]. It ends with 1 where something was wrong. The repository is only read.
 """
