@@ -1,186 +1,349 @@
 #!/usr/bin/env python3
-"""An independent generator of the volumes of `ntfs_make`, written from the rules in words before the crate was.
+"""An independent generator of the volumes of `ntfsmake`, written from the rules in words by somebody who had not seen the
+crate.
 
-    make_reference.py FILE SEED CLUSTERS CLUSTER     writes the volume
-    make_reference.py - SEED CLUSTERS CLUSTER        prints the sum with which the crate's tests compare
+    make_reference.py FILE SEED CLUSTERS CLUSTER    writes the volume: (CLUSTERS + 1) * CLUSTER bytes
+    make_reference.py - SEED CLUSTERS CLUSTER       prints its sum: each byte times (its place mod 65521 + 1), mod 2^64
+
+SEED is below 2^64. CLUSTER, the bytes of a cluster, is a power of two from 512 to 65536. CLUSTERS, their number, is from
+1024 (2048 where a cluster has 512 bytes) to 1048576. All numbers on the volume are little-endian.
 """
 import sys
+from operator import mul
+from struct import pack, pack_into
+from typing import NamedTuple
 
-def le(n, v): return (v % (1 << (8 * n))).to_bytes(n, 'little')
-def r8(n): return (n + 7) // 8 * 8
-def pad8(b): return b + bytes(r8(len(b)) - len(b))
-def signed(v):
-    n = 1
-    while not -(1 << (8 * n - 1)) <= v < (1 << (8 * n - 1)): n += 1
-    return v.to_bytes(n, 'little', signed=True)
+SECTOR, RECORD, BLOCK = 512, 1024, 4096  # bytes of a sector, of a file record and of an index block
+RECORDS = 64  # records that $MFT has room for; those that are not in use are zeros
+MFT_HALF = 32768  # each of the two areas of $MFT has the clusters that this many bytes need
 
-def pairs(runs):
-    joined = []
+STANDARD_INFORMATION, ATTRIBUTE_LIST, FILE_NAME, VOLUME_INFORMATION = 0x10, 0x20, 0x30, 0x70
+DATA, INDEX_ROOT, INDEX_ALLOCATION, BITMAP, END = 0x80, 0x90, 0xA0, 0xB0, 0xFFFFFFFF
+POSIX, WIN32, DOS, BOTH = 0, 1, 2, 3  # namespaces of names
+ROOT, DIR = 5, 23  # the directories that have entries
+DIRECTORIES = (ROOT, 11, DIR)
+EXTENSIONS = {22: 21, 28: 0}  # extension record: its base record
+FILES = [(32 + i, f"file{i:02}") for i in range(16)]
+
+# Each name: record, parent directory, namespace, name. A record has as many links as it has names.
+NAMES = [
+    (0, ROOT, BOTH, "$MFT"), (1, ROOT, BOTH, "$MFTMirr"), (2, ROOT, BOTH, "$LogFile"), (3, ROOT, BOTH, "$Volume"),
+    (4, ROOT, BOTH, "$AttrDef"), (5, ROOT, BOTH, "."), (6, ROOT, BOTH, "$Bitmap"), (7, ROOT, BOTH, "$Boot"),
+    (8, ROOT, BOTH, "$BadClus"), (9, ROOT, BOTH, "$Secure"), (10, ROOT, BOTH, "$UpCase"), (11, ROOT, BOTH, "$Extend"),
+    (16, ROOT, BOTH, "resident.txt"), (17, ROOT, BOTH, "empty.bin"), (18, ROOT, BOTH, "sparse.bin"),
+    (19, ROOT, BOTH, "half.bin"), (20, ROOT, BOTH, "packed.bin"), (21, ROOT, BOTH, "listed.bin"),
+    (23, ROOT, BOTH, "Dir"), (24, DIR, BOTH, "inner.txt"),
+    (25, ROOT, WIN32, "long name.txt"), (25, ROOT, DOS, "LONGNA~1.TXT"),
+    (26, ROOT, POSIX, "A.txt"), (27, ROOT, POSIX, "a.txt"),
+] + [(record, ROOT, BOTH, name) for record, name in FILES]
+
+class Attribute(NamedTuple):
+    kind: int
+    lowest: int  # its first VCN
+    raw: bytes  # all its bytes, with an instance that is still 0
+
+def padded(data):
+    return data.ljust(-(-len(data) // 8) * 8, b"\0")
+
+def units(name):
+    return name.encode("utf-16-le")
+
+def reference(record):
+    """The record's number, and in the upper 16 bits its sequence, which is 1 everywhere."""
+    return 1 << 48 | record
+
+def pattern(record, size):
+    """Byte j of a test file's stream, in its clusters, is (record + j) mod 256."""
+    return (bytes(range(256)) * (size // 256 + 2))[record : record + size]
+
+# ---- where everything lies
+
+def area_table(seed, clusters, cluster):
+    """The areas in order, with their lengths in clusters."""
+    needed = lambda size: -(-size // cluster)
+    return [
+        ("boot", needed(8192)), ("mft first", needed(MFT_HALF)), ("mirror", needed(4 * RECORD)),
+        ("journal", needed(65536)), ("bitmap", needed(bitmap_size(clusters))), ("upcase", needed(131072)),
+        ("root index", needed(BLOCK)), ("mft second", needed(MFT_HALF)),
+        ("sparse", 1), ("half", 2), ("packed", 4), ("listed first", 1), ("listed second", 1),
+    ] + [(name, 1 + (seed // 4 + i) % 4) for i, (_, name) in enumerate(FILES)]
+
+def layout(seed, clusters, cluster):
+    """Each area's run: first cluster and length. The boot area lies at cluster 0.
+
+    Where bit 1 of the seed is 0, the areas ascend with one free cluster between neighbours. Where it is 1, the second area
+    ends with the last cluster, and each next one has its last cluster two below the first cluster of the one before.
+    """
+    (boot, length), *others = area_table(seed, clusters, cluster)
+    runs, after, before = {boot: (0, length)}, length + 1, clusters
+    for name, length in others:
+        runs[name] = (before - length if seed & 2 else after, length)
+        after, before = after + length + 1, before - length - 1
+    return runs
+
+def bad_cluster(clusters):
+    return clusters // 2
+
+def bitmap_size(clusters):
+    """$Bitmap has whole words of 64 bits."""
+    return 8 * -(-clusters // 64)
+
+def bitmap(runs, clusters):
+    """A bit is 1 where a record owns the cluster (that is in each area, and in the bad cluster), and from the end on."""
+    bits = bytearray(bitmap_size(clusters))
+    areas = [range(lcn, lcn + length) for lcn, length in runs.values()]
+    for ones in areas + [[bad_cluster(clusters)], range(clusters, 8 * len(bits))]:
+        for b in ones:
+            bits[b // 8] |= 1 << b % 8
+    return bytes(bits)
+
+# ---- attributes
+
+def signed(number):
+    """The fewest bytes, and at least one, that hold a number in signed form."""
+    size = 1
+    while not -(1 << 8 * size - 1) <= number < 1 << 8 * size - 1:
+        size += 1
+    return number.to_bytes(size, "little", signed=True)
+
+def mapping_pairs(runs):
+    """Pairs of a length and the distance from the last LCN that is no hole's (at first from 0); a hole has no distance."""
+    pairs, last = b"", 0
     for lcn, length in runs:
-        if joined and ((joined[-1][0] is None and lcn is None) or (joined[-1][0] is not None and lcn is not None and joined[-1][0] + joined[-1][1] == lcn)):
-            joined[-1][1] += length
-        else: joined.append([lcn, length])
-    out, last = b'', 0
-    for lcn, length in joined:
-        l = signed(length); d = b''
-        if lcn is not None: d = signed(lcn - last); last = lcn
-        out += bytes([len(l) + 16 * len(d)]) + l + d
-    return out + b'\0'
+        count, distance = signed(length), b"" if lcn is None else signed(lcn - last)
+        last = last if lcn is None else lcn
+        pairs += bytes([len(distance) << 4 | len(count)]) + count + distance
+    return pairs + b"\0"
 
-def fix(block, at):
-    b = bytearray(block); n = len(b) // 512
-    b[at:at + 2] = le(2, 1)
-    for k in range(n):
-        end = 512 * k + 510
-        b[at + 2 + 2 * k: at + 4 + 2 * k] = b[end:end + 2]
-        b[end:end + 2] = le(2, 1)
-    return bytes(b)
+def attribute(kind, nonresident, name, flags, form, data, lowest=0):
+    """The common head (type, length, form, name, flags, instance), the form's own fields and the data, rounded up to 8.
 
-def resident(kind, instance, value, name=''):
-    nm = name.encode('utf-16-le')
-    at = 24 + r8(len(nm))
-    total = r8(at + len(value))
-    out = le(4, kind) + le(4, total) + le(1, 0) + le(1, len(name)) + le(2, 24) + le(2, 0) + le(2, instance)
-    out += le(4, len(value)) + le(2, at) + le(2, 0) + pad8(nm) + value
-    return out + bytes(total - len(out))
+    The name offset is 24 in a resident and 64 in a non-resident attribute, with a name or without.
+    """
+    rest = padded(form + data)
+    head = pack("<IIBBHHH", kind, 16 + len(rest), nonresident, len(name), 64 if nonresident else 24, flags, 0)
+    return Attribute(kind, lowest, head + rest)
 
-def nonresident(kind, instance, runs, c, size, init, lowest=0, name='', flags=0, unit=0, held=None):
-    nm = name.encode('utf-16-le')
-    vcns = sum(l for _, l in runs)
-    alloc = vcns * c
-    if lowest: alloc = size = init = 0
-    at = 64 + r8(len(nm))
-    extra = b''
-    if held is not None: at = 72; extra = le(8, held)
-    p = pairs(runs)
-    total = r8(at + len(p))
-    out = le(4, kind) + le(4, total) + le(1, 1) + le(1, len(name)) + le(2, 64) + le(2, flags) + le(2, instance)
-    out += le(8, lowest) + le(8, lowest + vcns - 1) + le(2, at) + le(2, unit) + le(4, 0) + le(8, alloc) + le(8, size) + le(8, init)
-    out += extra + pad8(nm) + p
-    return out + bytes(total - len(out))
+def resident(kind, value, name=""):
+    """The value stands at 24, or after the name rounded up to 8."""
+    before = padded(units(name))
+    return attribute(kind, 0, name, 0, pack("<IHxx", len(value), 24 + len(before)), before + value)
 
-def ref(n): return n | (1 << 48)
-def key(parent, name, space):
-    return le(8, ref(parent)) + bytes(32) + bytes(16) + bytes(8) + le(1, len(name)) + le(1, space) + name.encode('utf-16-le')
-def entry(n, k, flags=0): 
-    e = le(8, ref(n)) + le(2, r8(16 + len(k))) + le(2, len(k)) + le(2, flags) + le(2, 0) + k
-    return pad8(e)
-def end(child=None):
-    if child is None: return le(8, 0) + le(2, 16) + le(2, 0) + le(2, 2) + le(2, 0)
-    return le(8, 0) + le(2, 24) + le(2, 0) + le(2, 3) + le(2, 0) + le(8, child)
+def extent(runs, sizes, kind=DATA, name="", lowest=0, flags=0, unit=0, stored=None):
+    """A non-resident attribute. The sizes are allocated, size and initialised size; without a run the highest VCN is -1.
 
-def make(seed, N, c):
-    u = lambda x: -(-x // c)
-    spc = c // 512
-    S = N * spc + (spc - 1 if seed % 2 else 0)
-    lengths = {1: u(8192), 2: u(32768), 3: u(4096), 4: u(65536), 5: u(8 * (-(-N // 64))), 6: u(131072), 7: u(4096), 8: u(32768), 9: 1, 10: 2, 11: 4, 12: 1, 13: 1}
-    for i in range(16): lengths[14 + i] = 1 + ((seed // 4 + i) % 4)
-    at = {1: 0}
-    for p in range(2, 30):
-        if not seed & 2: at[p] = at[p - 1] + lengths[p - 1] + 1
-        elif p == 2: at[2] = N - lengths[2]      # it ends at cluster N - 1
-        else: at[p] = at[p - 1] - 2 - lengths[p] + 1   # its last cluster is two below the start of the one before
-    part = lambda p: (at[p], lengths[p])
-    records = {}
-    nodes = []
-    def record(n, items, names, flags=1, base=0):
-        attrs = b''
-        for i, f in enumerate(items): attrs += f(i)
-        used = 0x38 + len(attrs) + 8
-        h = b'FILE' + le(2, 0x30) + le(2, 3) + le(8, 0) + le(2, 1) + le(2, len(names)) + le(2, 0x38) + le(2, flags) + le(4, used) + le(4, 1024) + le(8, base) + le(2, len(items)) + le(2, 0) + le(4, n)
-        h += bytes(0x38 - len(h))
-        b = h + attrs + b'\xff\xff\xff\xff' + bytes(4)
-        assert len(b) == used <= 1024, (n, used)
-        records[n] = fix(b + bytes(1024 - used), 0x30)
-        for nm, sp, parent in names:
-            nodes.append((parent, n, nm, sp))
-    std = lambda i: resident(0x10, i, bytes(72))
-    def nm(name, space=3, parent=5): return lambda i: resident(0x30, i, key(parent, name, space))
-    def res(kind, value, name=''): return lambda i: resident(kind, i, value, name)
-    def nonres(kind, runs, size, init=None, **kw): return lambda i: nonresident(kind, i, runs, c, size, size if init is None else init, **kw)
-    def alist(rows): return lambda i: resident(0x20, i, b''.join(pad8(le(4, k) + le(2, 32) + le(1, 0) + le(1, 26) + le(8, low) + le(8, ref(r)) + le(2, inst)) for k, low, r, inst in rows))
-    def root(entries, flags=0):
-        cpb = 4096 // c if c <= 4096 else 4096 // 512
-        used = 16 + len(entries)
-        return le(4, 0x30) + le(4, 1) + le(4, 4096) + le(1, cpb) + bytes(3) + le(4, 16) + le(4, used) + le(4, used) + le(1, flags) + bytes(3) + entries
-    def simple(n, name, f, **kw): record(n, [std, nm(name), f], [(name, 3, 5)], **kw)
-    u2 = u(32768)
-    simple(1, '$MFTMirr', nonres(0x80, [part(3)], 4096))
-    simple(2, '$LogFile', nonres(0x80, [part(4)], 65536))
-    simple(3, '$Volume', res(0x70, bytes(8) + bytes([3, 1, 0, 0])))
-    simple(4, '$AttrDef', res(0x80, b''))
-    record(5, [std, nm('.'), res(0x90, root(end(0), 1), '$I30'), nonres(0xA0, [part(7)], 4096, name='$I30'), res(0xB0, b'\1' + bytes(7), '$I30')], [('.', 3, 5)], flags=3)
-    simple(6, '$Bitmap', nonres(0x80, [part(5)], 8 * (-(-N // 64))))
-    simple(7, '$Boot', nonres(0x80, [part(1)], 8192))
-    bad = N // 2
-    record(8, [std, nm('$BadClus'), res(0x80, b''), nonres(0x80, [(None, bad), (bad, 1), (None, N - bad - 1)], N * c, 0, name='$Bad')], [('$BadClus', 3, 5)])
-    simple(9, '$Secure', res(0x80, b''))
-    simple(10, '$UpCase', nonres(0x80, [part(6)], 131072))
-    simple(11, '$Extend', res(0x90, root(end()), '$I30'), flags=3)
-    simple(16, 'resident.txt', res(0x80, b'hello, ntfs\n'))
-    simple(17, 'empty.bin', nonres(0x80, [], 0))
-    simple(18, 'sparse.bin', nonres(0x80, [(None, 2), part(9), (None, 1)], 4 * c, flags=0x8000, held=c))
-    simple(19, 'half.bin', nonres(0x80, [part(10)], c + 5, 10))
-    simple(20, 'packed.bin', nonres(0x80, [part(11), (None, 12)], 16 * c, flags=1, unit=4, held=4 * c))
-    # allocated in a first extent counts all VCNs of the stream
-    def first(kind, runs, total, size): 
-        def f(i):
-            b = bytearray(nonresident(kind, i, runs, c, size, size)); b[0x28:0x30] = le(8, total * c); return bytes(b)
-        return f
-    record(21, [std, alist([(0x10, 0, 21, 0), (0x30, 0, 21, 2), (0x80, 0, 21, 3), (0x80, 1, 22, 0)]), nm('listed.bin'), first(0x80, [part(12)], 2, 2 * c)], [('listed.bin', 3, 5)])
-    record(22, [nonres(0x80, [part(13)], 0, lowest=1)], [], base=ref(21))
-    record(23, [std, nm('Dir'), res(0x90, root(entry(24, key(23, 'inner.txt', 3)) + end()), '$I30')], [('Dir', 3, 5)], flags=3)
-    record(24, [std, nm('inner.txt', parent=23), res(0x80, b'inner\n')], [('inner.txt', 3, 23)])
-    record(25, [std, nm('long name.txt', 1), nm('LONGNA~1.TXT', 2), res(0x80, b'')], [('long name.txt', 1, 5), ('LONGNA~1.TXT', 2, 5)])
-    record(26, [std, nm('A.txt', 0), res(0x80, b'A\n')], [('A.txt', 0, 5)])
-    record(27, [std, nm('a.txt', 0), res(0x80, b'a\n')], [('a.txt', 0, 5)])
-    record(28, [nonres(0x80, [part(8)], 0, lowest=u2)], [], base=ref(0))
-    for i in range(16): simple(32 + i, 'file%02d' % i, nonres(0x80, [part(14 + i)], lengths[14 + i] * c))
-    record(0, [std, alist([(0x10, 0, 0, 0), (0x30, 0, 0, 2), (0x80, 0, 0, 3), (0x80, u2, 28, 0), (0xB0, 0, 0, 4)]), nm('$MFT'),
-        first(0x80, [part(2)], 2 * u2, 65536), res(0xB0, bytes.fromhex('FF0FFF1FFFFF0000'))], [('$MFT', 3, 5)])
+    The pairs stand at 64, or after the name rounded up to 8. A sparse or packed stream has no name, but tells at 64 how
+    many bytes its clusters have; its pairs stand at 72.
+    """
+    before = padded(units(name)) if stored is None else pack("<Q", stored)
+    highest = lowest + sum(length for _, length in runs) - 1
+    form = pack("<QqHHxxxxQQQ", lowest, highest, 64 + len(before), unit, *sizes)
+    return attribute(kind, 1, name, flags, form, before + mapping_pairs(runs), lowest)
 
-    mft = b''.join(records.get(n, bytes(1024)) for n in range(64))
-    up = lambda x: x - 32 if 0x61 <= x <= 0x7A else x
-    names = sorted([(n, nm_, sp) for (p, n, nm_, sp) in nodes if p == 5], key=lambda t: ([up(ord(ch)) for ch in t[1]], [ord(ch) for ch in t[1]]))
-    entries = b''.join(entry(n, key(5, nm_, sp)) for n, nm_, sp in names) + end()
-    used = 0x28 + len(entries)
-    blk = b'INDX' + le(2, 0x28) + le(2, 9) + le(8, 0) + le(8, 0) + le(4, 0x28) + le(4, used) + le(4, 4096 - 0x18) + le(1, 0) + bytes(3)
-    blk += bytes(0x18 + 0x28 - len(blk)) + entries
-    assert len(blk) <= 4096
-    blk = fix(blk + bytes(4096 - len(blk)), 0x28)
+def name_key(parent, namespace, name):
+    """A $FILE_NAME: its parent, times, sizes and attributes that are 0, its length in units, its namespace, the name."""
+    return pack("<Q56xBB", reference(parent), len(name), namespace) + units(name)
 
-    used_set = set()
-    for p in range(1, 30): used_set |= set(range(at[p], at[p] + lengths[p]))
-    assert sum(lengths.values()) == len(used_set) and bad not in used_set and max(used_set) < N and min(used_set) >= 0
-    used_set.add(bad)
-    bm = bytearray(8 * (-(-N // 64)))
-    for b in list(used_set) + list(range(N, 8 * len(bm))): bm[b // 8] |= 1 << (b % 8)
+def list_entry(holder, instance, attr):
+    """An attribute list's entry, 32 bytes. No attribute that is listed here has a name."""
+    return pack("<IHBBQQH6x", attr.kind, 32, 0, 26, attr.lowest, reference(holder), instance)
 
-    image = bytearray((N + 1) * c)
-    def put(p, content): 
-        assert len(content) <= lengths[p] * c
-        image[at[p] * c: at[p] * c + len(content)] = content
-    boot = bytearray(512)
-    boot[0:3] = bytes.fromhex('EB5290'); boot[3:11] = b'NTFS    '; boot[0x0B:0x0D] = le(2, 512); boot[0x0D] = spc
-    boot[0x28:0x30] = le(8, S); boot[0x30:0x38] = le(8, at[2]); boot[0x38:0x40] = le(8, at[3]); boot[0x40] = 0xF6; boot[0x44] = 0xF4
-    boot[0x48:0x50] = le(8, seed); boot[0x1FE:0x200] = b'\x55\xaa'
-    put(1, bytes(boot)); image[S * 512:S * 512 + 512] = boot
-    put(2, mft[:32768]); put(8, mft[32768:]); put(3, mft[:4096]); put(4, b'\xff' * 65536); put(5, bytes(bm))
-    put(6, b''.join(le(2, up(x)) for x in range(65536))); put(7, blk)
-    def pattern(rec, n): return bytes((rec + j) % 256 for j in range(256)) * (n * c // 256)
-    for p, rec in [(9, 18), (10, 19), (11, 20), (12, 21), (13, 21)] + [(14 + i, 32 + i) for i in range(16)]: put(p, pattern(rec, lengths[p]))
-    return bytes(image)
+# ---- records
 
-def weighed(image):
-    """The sum of all bytes, each times its place counted from 1, in 64 bits."""
+def protect(block, array):
+    """Update sequence number 1: the last word of each 512-byte stride moves into the array, the number takes its place."""
+    strides = len(block) // 512
+    pack_into("<HH", block, 4, array, 1 + strides)
+    pack_into("<H", block, array, 1)
+    for i in range(strides):
+        saved, last = array + 2 + 2 * i, 512 * i + 510
+        block[saved : saved + 2] = block[last : last + 2]
+        block[last : last + 2] = pack("<H", 1)
+    return bytes(block)
+
+def file_record(number, attributes):
+    """A record in use. Instances count its attributes from 0; four zero bytes after the end mark count as in use."""
+    base = reference(EXTENSIONS[number]) if number in EXTENSIONS else 0
+    links = sum(attr.kind == FILE_NAME for attr in attributes)
+    flags = 3 if number in DIRECTORIES else 1
+    body = b"".join(attr.raw[:14] + pack("<H", i) + attr.raw[16:] for i, attr in enumerate(attributes))
+    body += pack("<II", END, 0)
+    head = pack("<4s4xQHHHHIIQHxxI", b"FILE", 0, 1, links, 0x38, flags, 0x38 + len(body), RECORD, base, len(attributes), number)
+    assert 0x38 + len(body) <= RECORD
+    return protect(bytearray((head.ljust(0x38, b"\0") + body).ljust(RECORD, b"\0")), 0x30)
+
+def with_names(number, besides):
+    """A record's attributes in order of type. All but extensions have a standard information of 72 zero bytes."""
+    if number in EXTENSIONS:
+        return besides
+    names = [resident(FILE_NAME, name_key(*key)) for record, *key in NAMES if record == number]
+    return sorted([resident(STANDARD_INFORMATION, bytes(72))] + names + besides, key=lambda attr: attr.kind)
+
+def with_list(number, attributes, extension, extension_attributes):
+    """The attributes with a resident list of all attributes of both records but itself, in order of type and VCN."""
+    position = sum(attr.kind < ATTRIBUTE_LIST for attr in attributes)
+    listed = [(attr, number, i + (i >= position)) for i, attr in enumerate(attributes)]
+    listed += [(attr, extension, i) for i, attr in enumerate(extension_attributes)]
+    listed.sort(key=lambda entry: (entry[0].kind, entry[0].lowest))
+    value = b"".join(list_entry(holder, instance, attr) for attr, holder, instance in listed)
+    return attributes[:position] + [resident(ATTRIBUTE_LIST, value)] + attributes[position:]
+
+# ---- indexes
+
+def upper(unit):
+    """$UpCase: a to z become A to Z, every other unit stays."""
+    return unit - 0x20 if 0x61 <= unit <= 0x7A else unit
+
+def collation(entry):
+    """Names are in order under $UpCase, ties by their units. (Each letter here is one unit.)"""
+    letters = [ord(letter) for letter in entry[3]]
+    return [upper(unit) for unit in letters], letters
+
+def index_entries(directory):
+    """The entries of all names that have this parent; each is 16 bytes and the key, rounded up to 8."""
+    entries = b""
+    for record, *name in sorted((name for name in NAMES if name[1] == directory), key=collation):
+        key = name_key(*name)
+        entries += pack("<QHHHxx", reference(record), 16 + len(padded(key)), len(key), 0) + padded(key)
+    return entries
+
+def end_entry(child=None):
+    """Reference 0 and no key: 16 bytes with flag 2, or 24 bytes with flags 3 and the child's VCN."""
+    return pack("<QHHHxx", 0, 16, 0, 2) if child is None else pack("<QHHHxxQ", 0, 24, 0, 3, child)
+
+def index_root(cluster, entries, children=False):
+    """Keys are $FILE_NAMEs, collation is 1, by names. A block's size is told in bytes, and in clusters, or in sectors where
+    a cluster is larger than a block. In the node header the used length, counted from it, is the allocated one too."""
+    used, per_block = 16 + len(entries), BLOCK // (cluster if cluster <= BLOCK else SECTOR)
+    head = pack("<IIIBxxxIIIBxxx", FILE_NAME, 1, BLOCK, per_block, 16, used, used, children)
+    return resident(INDEX_ROOT, head + entries, "$I30")
+
+def root_block():
+    """The one index block: VCN 0, no children. Its node header is at 0x18, its first entry 0x28 further on."""
+    entries = index_entries(ROOT) + end_entry()
+    head = pack("<4s4xQQIIIBxxx", b"INDX", 0, 0, 0x28, 0x28 + len(entries), BLOCK - 0x18, 0)
+    assert 0x18 + 0x28 + len(entries) <= BLOCK
+    return protect(bytearray((head.ljust(0x18 + 0x28, b"\0") + entries).ljust(BLOCK, b"\0")), 0x28)
+
+# ---- the volume
+
+def sectors(seed, clusters, cluster):
+    """An odd seed counts the sectors of one more cluster, but for its last one: there the copy of the boot sector lies."""
+    per_cluster = cluster // SECTOR
+    return clusters * per_cluster + (per_cluster - 1) * (seed & 1)
+
+def boot_sector(seed, clusters, cluster, runs):
+    boot = bytearray(SECTOR)
+    pack_into("<3s8sHB", boot, 0, b"\xEB\x52\x90", b"NTFS    ", SECTOR, cluster // SECTOR)
+    pack_into("<QQQ", boot, 0x28, sectors(seed, clusters, cluster), runs["mft first"][0], runs["mirror"][0])
+    pack_into("<B3xB3xQ", boot, 0x40, 0xF6, 0xF4, seed)  # records of 2^10 bytes, index blocks of 2^12, the serial
+    boot[0x1FE:] = b"\x55\xAA"
+    return bytes(boot)
+
+def make(seed, clusters, cluster):
+    """The pieces of the image: place and bytes. Every byte outside them is zero."""
+    runs = layout(seed, clusters, cluster)
+    boot = boot_sector(seed, clusters, cluster, runs)
+    pieces = [(sectors(seed, clusters, cluster) * SECTOR, boot)]  # the copy, behind the counted sectors
+
+    def put(stream_runs, content):
+        """Byte b of a stream lies in its VCN floor(b / cluster). What its clusters have behind its bytes is zero."""
+        vcn = 0
+        for lcn, length in stream_runs:
+            if lcn is not None:  # a hole has no clusters
+                pieces.append((lcn * cluster, content[vcn * cluster : (vcn + length) * cluster]))
+            vcn += length
+
+    def stream(stream_runs, content, size=None, initialised=None, **more):
+        """A stream in one attribute, with what stands in its clusters. All its VCNs count as allocated."""
+        put(stream_runs, content)
+        allocated = cluster * sum(length for _, length in stream_runs)
+        size = len(content) if size is None else size
+        return extent(stream_runs, (allocated, size, size if initialised is None else initialised), **more)
+
+    half = runs["mft first"][1]  # the VCN with which the second area of $MFT begins
+    mft_runs = [runs["mft first"], runs["mft second"]]
+    listed_runs = [runs["listed first"], runs["listed second"]]
+    bad = bad_cluster(clusters)
+    bad_runs = [(None, bad), (bad, 1), (None, clusters - bad - 1)]
+    none = (0, 0, 0)  # the sizes of an empty stream, and of each extent but a stream's first
+    upcase = b"".join(pack("<H", upper(unit)) for unit in range(65536))
+
+    # What each record in use has besides its standard information, its names and its attribute list.
+    besides = {
+        0: [extent(mft_runs[:1], (2 * half * cluster, RECORDS * RECORD, RECORDS * RECORD)),
+            resident(BITMAP, bytes.fromhex("FF 0F FF 1F FF FF 00 00"))],
+        1: [extent([runs["mirror"]], (runs["mirror"][1] * cluster, 4 * RECORD, 4 * RECORD))],
+        2: [stream([runs["journal"]], b"\xFF" * 65536)],
+        3: [resident(VOLUME_INFORMATION, bytes(8) + bytes([3, 1, 0, 0]))],  # version 3.1, not dirty
+        4: [resident(DATA, b"")],
+        5: [index_root(cluster, end_entry(child=0), children=True),
+            stream([runs["root index"]], root_block(), kind=INDEX_ALLOCATION, name="$I30"),
+            resident(BITMAP, b"\x01" + bytes(7), "$I30")],
+        6: [stream([runs["bitmap"]], bitmap(runs, clusters))],
+        7: [stream([runs["boot"]], boot.ljust(8192, b"\0"))],
+        8: [resident(DATA, b""), extent(bad_runs, (clusters * cluster, clusters * cluster, 0), name="$Bad")],
+        9: [resident(DATA, b"")],
+        10: [stream([runs["upcase"]], upcase)],
+        11: [index_root(cluster, end_entry())],
+        16: [resident(DATA, b"hello, ntfs\n")],
+        17: [extent([], none)],
+        18: [stream([(None, 2), runs["sparse"], (None, 1)], pattern(18, 4 * cluster), flags=0x8000, stored=cluster)],
+        # its clusters are filled, also behind its size
+        19: [stream([runs["half"]], pattern(19, 2 * cluster), size=cluster + 5, initialised=10)],
+        20: [stream([runs["packed"], (None, 12)], pattern(20, 16 * cluster), flags=0x0001, unit=4, stored=4 * cluster)],
+        21: [extent(listed_runs[:1], (2 * cluster, 2 * cluster, 2 * cluster))],
+        22: [extent(listed_runs[1:], none, lowest=1)],
+        23: [index_root(cluster, index_entries(DIR) + end_entry())],
+        24: [resident(DATA, b"inner\n")],
+        25: [resident(DATA, b"")],
+        26: [resident(DATA, b"A\n")],
+        27: [resident(DATA, b"a\n")],
+        28: [extent(mft_runs[1:], none, lowest=half)],
+    }
+    for record, name in FILES:
+        besides[record] = [stream([runs[name]], pattern(record, runs[name][1] * cluster))]
+
+    attributes = {record: with_names(record, attrs) for record, attrs in besides.items()}
+    for extension, base in EXTENSIONS.items():
+        attributes[base] = with_list(base, attributes[base], extension, attributes[extension])
+    records = [file_record(i, attributes[i]) if i in attributes else bytes(RECORD) for i in range(RECORDS)]
+    put(mft_runs, b"".join(records))
+    put([runs["mirror"]], b"".join(records[:4]))  # raw, as they stand in $MFT
+    put(listed_runs, pattern(21, 2 * cluster))
+    return pieces
+
+def write(path, pieces, length):
+    with open(path, "wb") as image:
+        image.truncate(length)
+        for place, piece in pieces:
+            image.seek(place)
+            image.write(piece)
+
+def weighted_sum(pieces):
+    """The weights run from 1 to 65521 and begin anew. Pieces do not overlap, and zeros add nothing."""
     total = 0
-    for k in range(0, len(image), 512):
-        piece = image[k:k + 512]
-        if any(piece): total += sum(byte * (k + j + 1) for j, byte in enumerate(piece))
-    return total % (1 << 64)
+    for place, piece in pieces:
+        at = 0
+        while at < len(piece):
+            weight = (place + at) % 65521 + 1
+            part = piece[at : at + 65522 - weight]
+            total += sum(map(mul, part, range(weight, 65522)))
+            at += len(part)
+    return total % 2**64
 
-if __name__ == '__main__':
-    name, seed, clusters, cluster = sys.argv[1], *map(int, sys.argv[2:5])
-    image = make(seed, clusters, cluster)
-    if name == '-': print(weighed(image))
-    else: open(name, 'wb').write(image)
+def main(path, *numbers):
+    seed, clusters, cluster = map(int, numbers)
+    least = 2048 if cluster == 512 else 1024
+    if seed not in range(2**64) or cluster not in [512 << i for i in range(8)] or clusters not in range(least, 1048577):
+        sys.exit("out of range")
+    pieces = make(seed, clusters, cluster)
+    if path == "-":
+        print(weighted_sum(pieces))
+    else:
+        write(path, pieces, (clusters + 1) * cluster)
+
+if __name__ == "__main__":
+    if len(sys.argv) != 5:
+        sys.exit(__doc__)
+    main(*sys.argv[1:])

@@ -52,7 +52,7 @@ either-split : (shape : Shape) → IsShape shape → (t : Bool) → AllSplit (co
 either-split shape is true = up-all shape 0 area_rows
 either-split shape is false = first-then-down shape area_rows (total-fits shape is)
 
-all-split : (shape : Shape) → IsShape shape → AllSplit (areas_of shape)
+pub all-split : (shape : Shape) → IsShape shape → AllSplit (areas_of shape)
 unfolding areas_of
 all-split shape is = either-split shape is (shape.seed / 2 % 2 == 0)
 
@@ -76,7 +76,7 @@ sectors-least false n k c is =
     let bytes : n * c ≡ n * k * 512 = ap (λ m. n * m) (sym is ∙ mul_comm 512 k) ∙ sym (mul_assoc n k 512) in
     omega arith
 
-sectors-behind : (shape : Shape) → IsShape shape → shape.clusters * shape.cluster ≤ sectors shape * 512
+pub sectors-behind : (shape : Shape) → IsShape shape → shape.clusters * shape.cluster ≤ sectors shape * 512
 unfolding sectors
 sectors-behind shape is = let b = bounds shape is in sectors-least (shape.seed % 2 == 1) shape.clusters (shape.cluster / 512) shape.cluster b.sectors
 

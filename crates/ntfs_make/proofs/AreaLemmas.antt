@@ -1,5 +1,5 @@
 -- The areas lie within the clusters of the volume.
-use Rattle.std.proofs.Common.{◌≡◌, ◌≤◌, ◌<◌, ◌+◌, ◌-◌, ◌*◌, ◌/◌, ◌%◌, ◌^◌, ◌==◌, ◌&&◌, ℕ, zero, suc, Bool, true, false, cond, IsTrue, List, [], ◌∷◌, ◌++◌, length, take, drop, get_or, nat_le, refl, ap, sym, ◌∙◌, subst, arith}
+use Rattle.std.proofs.Common.{◌≡◌, ◌≤◌, ◌<◌, ◌+◌, ◌-◌, ◌*◌, ◌/◌, ◌%◌, ◌^◌, ◌==◌, ◌&&◌, ℕ, zero, suc, Bool, true, false, cond, IsTrue, List, [], ◌∷◌, ◌++◌, length, take, drop, get_or, nat_le, refl, ap, arith}
 use Rattle.std.specs.Prelude.{slice_get, unwrap_or}
 use Rattle.std.specs.List.{list_all}
 use Rattle.std.proofs.Math.Nat.{mul-le-mul_right, lt-div-mul-add, div-le_of_le-mul, mul-add, mul_comm}
@@ -11,7 +11,7 @@ use Rattle.ntfs_make.specs.declared.table.Area.{Area}
 use Rattle.ntfs_make.specs.declared.table.ClusterCount.{ClusterCount}
 use Rattle.ntfs_make.specs.declared.table.ClusterCount.TheVariants.{ForBytes, ForBitmap, Exactly, OfFile}
 use Rattle.ntfs_make.specs.Shape.{IsShape, clusters_for, bitmap_size, is_cluster_size}
-use Rattle.ntfs_make.specs.Areas.{area_rows, cluster_count, area_from, areas_up, areas_down, areas_of, area_at, no_area}
+use Rattle.ntfs_make.specs.Areas.{area_rows, cluster_count, areas_up, areas_down, areas_of, area_at, no_area}
 use Rattle.ntfs_make.specs.Volume.{LiesInVolume}
 use Rattle.ntfs_make.proofs.ShapeLemmas.{bounds, bitmap_size-le, clusters_for-le}
 

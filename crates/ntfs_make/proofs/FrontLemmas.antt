@@ -12,7 +12,7 @@ use Rattle.ntfs_make.specs.Left.{IsZeroOrMade}
 use Rattle.ntfs_make.proofs.LawLemmas.{inside-writes}
 use Rattle.ntfs_make.proofs.ApartLemmas.{areas-apart}
 
-volume-at : (seed clusters cluster i : ℕ) → i < (clusters + 1) * cluster → slice_index (volume_bytes_of seed clusters cluster) i ≡ byte_from (volume_writes seed clusters cluster) i 0
+pub volume-at : (seed clusters cluster i : ℕ) → i < (clusters + 1) * cluster → slice_index (volume_bytes_of seed clusters cluster) i ≡ byte_from (volume_writes seed clusters cluster) i 0
 unfolding volume_bytes_of
 volume-at seed clusters cluster i short = get_or-map-range_with_len (λ place. byte_from (volume_writes seed clusters cluster) place 0) 0 ((clusters + 1) * cluster) i i 0 short (omega arith)
 

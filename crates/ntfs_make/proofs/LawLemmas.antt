@@ -1,14 +1,15 @@
 -- The writes of the volume give its bytes.
-use Rattle.std.proofs.Common.{◌≡◌, ◌≤◌, ◌+◌, ◌*◌, ℕ, IsTrue, List, [], ◌∷◌, length, map, replicate, ap, ◌∙◌, arith, length-take}
+use Rattle.std.proofs.Common.{◌≡◌, ◌≤◌, ◌+◌, ◌*◌, ℕ, IsTrue, List, [], ◌∷◌, length, map, replicate, ap, ◌∙◌, arith}
 use Rattle.std.specs.Prelude.{Result, Ok, Err, OnOk}
 use Rattle.ntfs_base.specs.Image.{ImageState}
 use Rattle.ntfs_base.specs.Writes.{content_after, Wrote}
 use Rattle.ntfs_base.proofs.ContentLemmas.{AllInside, content_after-zeros, inside-append, told-content_after}
+use Rattle.ntfs_base.proofs.PieceLemmas.{length-piece-le}
 use Rattle.ntfs_make.specs.declared.shape.Shape.{Shape}
 use Rattle.ntfs_make.specs.declared.table.Area.{Area}
 use Rattle.ntfs_make.specs.Shape.{IsShape, shape_of}
 use Rattle.ntfs_make.specs.Areas.{areas_of}
-use Rattle.ntfs_make.specs.Streams.{area_bytes}
+use Rattle.ntfs_make.specs.Streams.{area_bytes, stream_bytes}
 use Rattle.ntfs_make.specs.Volume.{area_write, copy_write, shape_writes, volume_writes, volume_bytes_of, LiesInVolume}
 use Rattle.ntfs_make.proofs.ShapeLemmas.{inside, sectors-end}
 use Rattle.ntfs_make.proofs.StreamLemmas.{length-boot}
@@ -17,7 +18,7 @@ use Rattle.ntfs_make.proofs.AreaLemmas.{AllAreas, all-lie}
 -- what stands in an area fits its clusters
 pub area-fits : (shape : Shape) (area : Area) → length (area_bytes shape area) ≤ area.length * shape.cluster
 unfolding area_bytes
-area-fits shape area = simp length-take (omega arith)
+area-fits shape area = length-piece-le (area.first_vcn * shape.cluster) (area.length * shape.cluster) (stream_bytes shape area.content)
 
 inside-areas : (shape : Shape) (areas : List Area) → AllAreas (LiesInVolume shape) areas → AllInside ((shape.clusters + 1) * shape.cluster) (map (area_write shape) areas)
 inside-areas shape [] lie = tt

@@ -13,3 +13,6 @@ pub mod LawLemmas
 pub mod BitmapLemmas
 pub mod ApartLemmas
 pub mod FrontLemmas
+pub mod ReadLemmas
+pub mod StreamReadLemmas
+pub mod NameOrderLemmas

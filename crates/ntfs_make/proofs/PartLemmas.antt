@@ -1,7 +1,5 @@
 -- Parts of streams.
-use Rattle.std.proofs.Common.{◌≡◌, ◌≤◌, ◌<◌, ◌+◌, ◌-◌, ◌*◌, ◌/◌, ◌%◌, ◌⊎◌, inl, inr, ℕ, zero, suc, List, [], ◌∷◌, ◌++◌, length, take, drop, map, get_or, min, refl, ap, sym, ◌∙◌, subst, arith, length-append, length-take, length-drop, get_or-take, get_or-drop, append-nil}
-use Rattle.std.specs.Prelude.{flat_map}
-use Rattle.std.specs.List.{range_with_len}
+use Rattle.std.proofs.Common.{◌≡◌, ◌≤◌, ◌<◌, ◌+◌, ◌-◌, ◌*◌, ◌%◌, ◌⊎◌, inl, inr, ℕ, List, [], ◌++◌, length, take, drop, min, ap, sym, ◌∙◌, arith, length-take, length-drop, get_or-take, get_or-drop, append-nil}
 use Rattle.std.proofs.Math.Seq.{drop-append-add}
 use Rattle.std.proofs.lemmas.List.{take-append-drop}
 use Rattle.std.proofs.lemmas.List.FromFn.{fill_by_all, length-map-range_with_len, get_or-map-range_with_len}
@@ -10,7 +8,8 @@ use Rattle.ntfs_base.proofs.BytesLemmas.{take-drop-append}
 use Rattle.ntfs_make.specs.declared.shape.Shape.{Shape}
 use Rattle.ntfs_make.specs.Table.{RowValue}
 use Rattle.ntfs_make.specs.Records.{records_bytes, record_of_row}
-use Rattle.ntfs_make.specs.Streams.{bytes_between, counting_bytes, HasBetween}
+use Rattle.ntfs_base.specs.Bytes.{piece_at}
+use Rattle.ntfs_make.specs.Streams.{counting_bytes, HasBetween}
 use Rattle.ntfs_make.proofs.StreamLemmas.{length-records}
 use Rattle.ntfs_make.proofs.RowLemmas.{drop-all}
 
@@ -18,20 +17,21 @@ use Rattle.ntfs_make.proofs.RowLemmas.{drop-all}
 pub whole-part : (from count : ℕ) (stream : List ℕ) → HasBetween from count stream 0 stream
 whole-part from count stream =
     let same : from - 0 ≡ from = omega arith in
-    record { begins = omega arith; has = ap (λ at. bytes_between at count stream) same }
+    record { begins = omega arith; has = ap (λ at. piece_at at count stream) same }
 
 -- bytes in the middle that have so many from a place on
 middle : (front bytes behind : List ℕ) (from count : ℕ) → length front ≤ from → (from - length front + count ≤ length bytes) ⊎ (behind ≡ [])
-    → bytes_between (from - length front) count bytes ≡ bytes_between from count (front ++ (bytes ++ behind))
+    → piece_at (from - length front) count bytes ≡ piece_at from count (front ++ (bytes ++ behind))
+unfolding piece_at
 middle front bytes behind from count begins ends =
     let at : length front + (from - length front) ≡ from = omega arith in
     let moved : drop from (front ++ (bytes ++ behind)) ≡ drop (from - length front) (bytes ++ behind)
     = ap (λ n. drop n (front ++ (bytes ++ behind))) (sym at) ∙ drop-append-add front (bytes ++ behind) (from - length front) in
     within ends ∙ ap (take count) (sym moved)
   where
-    within : (from - length front + count ≤ length bytes) ⊎ (behind ≡ []) → bytes_between (from - length front) count bytes ≡ bytes_between (from - length front) count (bytes ++ behind)
+    within : (from - length front + count ≤ length bytes) ⊎ (behind ≡ []) → piece_at (from - length front) count bytes ≡ piece_at (from - length front) count (bytes ++ behind)
     within (inl fits) = sym (take-drop-append (from - length front) count bytes behind fits)
-    within (inr none) = ap (bytes_between (from - length front) count) (sym (append-nil bytes) ∙ ap (λ rest. bytes ++ rest) (sym none))
+    within (inr none) = ap (piece_at (from - length front) count) (sym (append-nil bytes) ∙ ap (λ rest. bytes ++ rest) (sym none))
 
 length-take-rows : (rows : List RowValue) (n : ℕ) → n ≤ length rows → length (take n rows) ≡ n
 length-take-rows rows n within = simp length-take (omega arith)
@@ -56,14 +56,14 @@ records-part shape rows first count_rows from count begins within ends =
     ] in
     record {
       begins = begins;
-      has = ap (λ n. bytes_between (from - n) count (records_bytes shape some)) (sym long_front)
+      has = ap (λ n. piece_at (from - n) count (records_bytes shape some)) (sym long_front)
           ∙ middle (records_bytes shape front) (records_bytes shape some) (records_bytes shape behind) from count (omega arith) ends_so
-          ∙ ap (bytes_between from count) (sym split);
+          ∙ ap (piece_at from count) (sym split);
     }
 
 -- bytes that count up from a place on
 pub counting-part : (number size from count : ℕ) → HasBetween from count (counting_bytes number size) from (counting_bytes (number + from) (min (size - from) count))
-unfolding counting_bytes
+unfolding counting_bytes piece_at
 counting-part number size from count =
     let all = counting_bytes number size in
     let some = take count (drop from all) in

@@ -1,5 +1,5 @@
 -- The writes of the whole volume.
-use Rattle.std.proofs.Common.{◌≡◌, ℕ, List, [], ◌∷◌, ◌++◌, map, ap, ◌∙◌, subst, Result, Err}
+use Rattle.std.proofs.Common.{◌≡◌, ℕ, [], ◌∷◌, ◌++◌, map, ap, subst, Result, Err}
 use Rattle.ntfs_base.specs.Image.{ImageState}
 use Rattle.ntfs_base.specs.Writes.{after_writes, Wrote}
 use Rattle.ntfs_make.specs.declared.shape.Shape.{Shape}

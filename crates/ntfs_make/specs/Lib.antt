@@ -13,3 +13,5 @@ pub mod Boot
 pub mod Streams
 pub mod Volume
 pub mod Left
+pub mod Laws
+pub mod NameOrder

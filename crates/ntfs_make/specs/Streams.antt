@@ -1,7 +1,8 @@
 -- What the streams in clusters have, and what of them stands in an area. Byte b of a stream stands in VCN b / c, where a
 -- cluster has c bytes (the Linux-NTFS documentation, "Concepts", on VCNs). Where no source is named, the words are ours.
-use Rattle.std.specs.Prelude.{◌≡◌, ◌≤◌, ◌+◌, ◌-◌, ◌*◌, ◌%◌, ◌==◌, ◌&&◌, ◌||◌, ℕ, Bool, true, false, List, [], ◌∷◌, map, take, drop, replicate, nat_le, nat_lt, if◌then◌else◌}
+use Rattle.std.specs.Prelude.{◌≡◌, ◌≤◌, ◌+◌, ◌-◌, ◌*◌, ◌%◌, ◌==◌, ◌&&◌, ◌||◌, ℕ, Bool, true, false, List, [], ◌∷◌, map, replicate, nat_le, nat_lt, if◌then◌else◌}
 use Rattle.std.specs.List.{range_with_len}
+use Rattle.ntfs_base.specs.Bytes.{piece_at}
 use Rattle.ntfs_make.specs.declared.shape.Shape.{Shape}
 use Rattle.ntfs_make.specs.declared.table.Area.{Area}
 use Rattle.ntfs_make.specs.declared.table.Content.{Content}
@@ -62,16 +63,12 @@ stream_bytes shape UpCase = up_case_bytes 65536
 stream_bytes shape Index = index_block
 stream_bytes shape (Counting number vcns) = counting_bytes number (cluster_count shape vcns * shape.cluster)
 
--- so many bytes of a list from a place on, as far as there are any
-abbrev pub bytes_between : ℕ → ℕ → List ℕ → List ℕ
-bytes_between from count bytes = take count (drop from bytes)
-
 -- what an area has: the bytes of its VCNs; what is left of its clusters behind them is zero
 unfoldable pub area_bytes : Shape → Area → List ℕ
 area_bytes shape area =
-    bytes_between (area.first_vcn * shape.cluster) (area.length * shape.cluster) (stream_bytes shape area.content)
+    piece_at (area.first_vcn * shape.cluster) (area.length * shape.cluster) (stream_bytes shape area.content)
 
 -- bytes of a stream, of which the first stands at a place, have so many of them from another place on
 pub record HasBetween (from count : ℕ) (stream : List ℕ) (place : ℕ) (bytes : List ℕ) : Type 0 where
   pub begins : place ≤ from
-  pub has : bytes_between (from - place) count bytes ≡ bytes_between from count stream
+  pub has : piece_at (from - place) count bytes ≡ piece_at from count stream

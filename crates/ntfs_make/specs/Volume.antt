@@ -1,5 +1,5 @@
 -- The generated volume: its bytes, and the writes that make it from zeros. The words are ours.
-use Rattle.std.specs.Prelude.{◌≡◌, ◌≤◌, ◌<◌, ◌+◌, ◌*◌, ℕ, List, [], ◌∷◌, ◌++◌, length, map, slice_index_or, IfErr, Result}
+use Rattle.std.specs.Prelude.{◌≤◌, ◌<◌, ◌+◌, ◌*◌, ℕ, List, [], ◌∷◌, ◌++◌, map}
 use Rattle.std.specs.List.{range_with_len}
 use Rattle.ntfs_base.specs.Frames.{Origin, writing, memory}
 use Rattle.ntfs_base.specs.Writes.{Write, byte_from}

@@ -12,7 +12,7 @@ use crate::boot::boot_sector;
 use crate::fault::MakeFault;
 use crate::layout::Layout;
 use crate::shape::{Shape, sectors};
-use crate::stream::{bytes_between, stream_part};
+use crate::stream::{piece, stream_part};
 use crate::table::Area;
 use ntfs_base::Image;
 use std::alloc::Global;
@@ -34,7 +34,7 @@ fn write_area<G: Image>(
     let from = area.first_vcn * cluster;
     let count = area.length * cluster;
     let part = stream_part(alloc, layout, area.content, from, count)?;
-    let bytes = bytes_between(&part.bytes, from - part.place, count);
+    let bytes = piece(&part.bytes, from - part.place, count);
     image
         .write_at(area.start * cluster, bytes)
         .map_err(|_| MakeFault::WriteFault)

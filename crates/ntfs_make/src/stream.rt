@@ -1,6 +1,7 @@
 //! What the streams in clusters have, and what of them stands in an area.
 
 ghost use Rattle.std.specs.Prelude.{◌≡◌, ◌++◌, ◌+◌, ◌-◌, ◌*◌, ◌≤◌, ◌<◌, ◌^◌, ℕ, false, length, OnOk, IfOk, IsTrue, IsFalse, map, take};
+ghost use Rattle.ntfs_base.specs.Bytes.{piece_at};
 ghost use Rattle.ntfs_make.specs.Shape.{bitmap_size as size_of_bitmap};
 ghost use Rattle.ntfs_make.specs.UpCase as up_case;
 ghost use Rattle.ntfs_make.specs.Records.{records_bytes, rows_between};
@@ -275,8 +276,9 @@ pub(crate) fn stream_part(
 }
 
 // So many bytes from a place on, as far as there are any.
-pub(crate) fn bytes_between(bytes: &[u8], from: u64, count: u64) -> &[u8]
-    ensures { result.now ≡ spec.bytes_between from count bytes.now }
+#[tactic(auto, unfolding(ntfs_base::specs::Bytes::piece_at))]
+pub(crate) fn piece(bytes: &[u8], from: u64, count: u64) -> &[u8]
+    ensures { result.now ≡ piece_at from count bytes.now }
 {
     let first = from.min(bytes.len() as u64) as usize;
     let rest = &bytes[first..];

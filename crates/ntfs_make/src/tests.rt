@@ -9,7 +9,8 @@ use std::alloc::{AllocError, Global};
 use std::process::Abort;
 use std::test::Fail;
 
-#[tactic(auto, unfolding(crate::specs::Fields::zeros))]
+mod streams;
+
 fn zeros(alloc: Global, count: usize) -> Result<Vec<u8>, AllocError>
     ensures { IfOk result (λ bytes. bytes.items ≡ replicate count 0) }
 {
@@ -42,7 +43,7 @@ fn attempt(
 }
 
 // A made volume.
-fn volume(
+pub(crate) fn volume(
     rt: &impl Abort,
     alloc: Global,
     seed: u64,
@@ -54,18 +55,18 @@ fn volume(
     Ok(image)
 }
 
-// The sum of all bytes, each times its place counted from 1.
-fn weighed(bytes: &[u8]) -> u64 {
+// The sum of all bytes, each times one more than its place modulo 65,521.
+fn weighed_sum(bytes: &[u8]) -> u64 {
     let mut sum = 0u64;
-    let mut place = 0u64;
+    let mut weight = 0u64;
     'bytes: for byte in bytes {
-        place = place.wrapping_add(1);
-        sum = sum.wrapping_add(u64::from(*byte).wrapping_mul(place));
+        weight = if weight < 65521 { weight + 1 } else { 1 };
+        sum = sum.wrapping_add(u64::from(*byte).wrapping_mul(weight));
     }
     sum
 }
 
-fn has(bytes: &[u8], place: usize, text: &[u8]) -> bool {
+pub(crate) fn has(bytes: &[u8], place: usize, text: &[u8]) -> bool {
     match bytes.get(place..) {
         Some(rest) => rest.starts_with(text),
         None => false,
@@ -138,56 +139,205 @@ fn the_bitmap_and_a_file_stand_at_their_clusters(rt: HostRuntime) -> Result<(), 
     Ok(())
 }
 
-// Makes a volume, and compares its sum.
+// Makes the volume of each seed, and compares its sum.
 fn compares(
     rt: &impl Abort,
     alloc: Global,
-    seed: u64,
     clusters: u32,
     cluster: u32,
-    sum: u64,
+    sums: &[(u64, u64)],
 ) -> Result<(), Fail> {
-    let image = volume(rt, alloc, seed, clusters, cluster)?;
-    assert_eq!(rt;
-        weighed(&image.inside.bytes),
-        sum,
-        "{seed} {clusters} {cluster}"
-    );
+    'sums: for (seed, sum) in sums {
+        let image = volume(rt, alloc, *seed, clusters, cluster)?;
+        assert_eq!(rt;
+            weighed_sum(&image.inside.bytes),
+            *sum,
+            "{seed} {clusters} {cluster}"
+        );
+    }
     Ok(())
 }
 
 #[test]
-fn volumes_are_those_of_an_independent_generator(rt: HostRuntime) -> Result<(), Fail> {
+fn volumes_with_clusters_of_512_bytes(rt: HostRuntime) -> Result<(), Fail> {
+    compares(
+        &rt,
+        rt.alloc(),
+        2048,
+        512,
+        &[
+            (0, 1220776471048),
+            (1, 1220776471434),
+            (2, 1195666829926),
+            (3, 1195666830312),
+            (4, 1219976296695),
+            (5, 1219976297081),
+            (6, 1196468789209),
+            (7, 1196468789595),
+        ],
+    )
+}
+
+#[test]
+fn volumes_with_clusters_of_512_bytes_and_more_seeds(rt: HostRuntime) -> Result<(), Fail> {
+    compares(
+        &rt,
+        rt.alloc(),
+        2048,
+        512,
+        &[
+            (8, 1219709568116),
+            (9, 1219709568502),
+            (10, 1196736127006),
+            (11, 1196736127392),
+            (12, 1219976291449),
+            (13, 1219976291835),
+            (14, 1196468817267),
+            (15, 1196468817653),
+        ],
+    )
+}
+
+#[test]
+fn volumes_with_clusters_of_1024_bytes(rt: HostRuntime) -> Result<(), Fail> {
+    compares(
+        &rt,
+        rt.alloc(),
+        1024,
+        1024,
+        &[
+            (0, 1308885409624),
+            (1, 1308886287900),
+            (2, 1303999808673),
+            (3, 1304000891749),
+            (5, 1314222837248),
+            (6, 1300277084507),
+            (7, 1300278169631),
+        ],
+    )
+}
+
+#[test]
+fn volumes_with_clusters_of_2048_bytes(rt: HostRuntime) -> Result<(), Fail> {
+    compares(
+        &rt,
+        rt.alloc(),
+        1024,
+        2048,
+        &[
+            (0, 1533920075127),
+            (1, 1533922691711),
+            (2, 1524009499225),
+            (3, 1524012819297),
+            (5, 1537405522305),
+            (6, 1506288131747),
+            (7, 1506291457963),
+        ],
+    )
+}
+
+#[test]
+fn volumes_with_clusters_of_4096_bytes(rt: HostRuntime) -> Result<(), Fail> {
+    compares(
+        &rt,
+        rt.alloc(),
+        1024,
+        4096,
+        &[
+            (0, 1930557403478),
+            (1, 1930563554854),
+            (2, 1894632652398),
+            (3, 1894640549182),
+            (5, 1980853853800),
+            (6, 1904309268197),
+            (7, 1904317179317),
+        ],
+    )
+}
+
+#[test]
+fn volumes_with_clusters_of_8192_bytes(rt: HostRuntime) -> Result<(), Fail> {
+    compares(
+        &rt,
+        rt.alloc(),
+        1024,
+        8192,
+        &[
+            (0, 2767618454756),
+            (1, 2767631972932),
+            (2, 2783768656516),
+            (3, 2783786022372),
+            (5, 2767884183560),
+            (6, 2783603788790),
+            (7, 2783621185366),
+        ],
+    )
+}
+
+#[test]
+fn volumes_with_clusters_of_16384_bytes(rt: HostRuntime) -> Result<(), Fail> {
+    compares(
+        &rt,
+        rt.alloc(),
+        1024,
+        16384,
+        &[
+            (0, 4415970389776),
+            (1, 4415999878544),
+            (2, 4549781482518),
+            (3, 4549819018390),
+            (5, 4417169969295),
+            (6, 4548132161249),
+            (7, 4548169760609),
+        ],
+    )
+}
+
+#[test]
+fn volumes_with_clusters_of_32768_bytes(rt: HostRuntime) -> Result<(), Fail> {
+    compares(
+        &rt,
+        rt.alloc(),
+        1024,
+        32768,
+        &[
+            (0, 7577187937726),
+            (1, 7577246043774),
+            (2, 7901391422339),
+            (3, 7901465978947),
+            (5, 7579071777256),
+            (6, 7902999781304),
+            (7, 7903074466936),
+        ],
+    )
+}
+
+#[test]
+fn volumes_with_clusters_of_65536_bytes(rt: HostRuntime) -> Result<(), Fail> {
+    compares(
+        &rt,
+        rt.alloc(),
+        1024,
+        65536,
+        &[
+            (0, 14553550916902),
+            (1, 14553551941787),
+            (2, 14510817719645),
+            (3, 14510818491060),
+        ],
+    )
+}
+
+#[test]
+fn volumes_of_other_counts_and_seeds(rt: HostRuntime) -> Result<(), Fail> {
     for (seed, clusters, cluster, sum) in [
-        (0, 2048, 512, 5496339759982),
-        (1, 2048, 512, 5496340808704),
-        (2, 2048, 512, 33815866712626),
-        (3, 2048, 512, 33815867761348),
-        (4, 2048, 512, 5495548889611),
-        (5, 2048, 512, 5495549938333),
-        (6, 2048, 512, 33816655174583),
-        (7, 2048, 512, 33816656223305),
-        (8, 2048, 512, 5495288057922),
-        (9, 2048, 512, 5495289106644),
-        (10, 2048, 512, 33816920808834),
-        (11, 2048, 512, 33816921857556),
-        (12, 2048, 512, 5495557271053),
-        (13, 2048, 512, 5495558319775),
-        (14, 2048, 512, 33816663589329),
-        (15, 2048, 512, 33816664638051),
-        (0, 1024, 4096, 16866273582435),
-        (1, 1024, 4096, 16866313280563),
-        (2, 1024, 4096, 232583966907106),
-        (3, 1024, 4096, 232584008350642),
-        (0, 1024, 65536, 1427196107986425),
-        (3, 1024, 65536, 28364254832934328),
-        (987654321987654321, 2100, 1024, 6686582459802),
-        (18446744073709551615, 1030, 2048, 89283936855091),
-        (77, 1100, 8192, 38956416862340),
-        (6, 1500, 16384, 3233544988469022),
-        (9, 1024, 32768, 378907299355987),
+        (987654321987654321, 2100, 1024, 1309064519165),
+        (18446744073709551615, 1030, 2048, 1510106915158),
+        (77, 1100, 8192, 2767793145508),
+        (6, 1500, 16384, 4530789987344),
+        (9, 1024, 32768, 7576687161589),
     ] {
-        compares(&rt, rt.alloc(), seed, clusters, cluster, sum)?;
+        compares(&rt, rt.alloc(), clusters, cluster, &[(seed, sum)])?;
     }
     Ok(())
 }

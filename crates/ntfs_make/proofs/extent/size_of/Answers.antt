@@ -1,4 +1,4 @@
-use Rattle.std.proofs.Common.{arith, ◌<◌, ◌^◌}
+use Rattle.std.proofs.Common.{arith}
 use Rattle.ntfs_make.proofs.ShapeLemmas.{bounds, times-fits}
 use Rattle.ntfs_make.proofs.extent.size_of.Goals as goal
 

@@ -1,4 +1,5 @@
-use Rattle.std.proofs.Common.{◌≡◌, ◌+◌, ◌-◌, ◌*◌, ◌≤◌, ℕ, List, length, take, drop, ap, subst, sym, ◌∙◌, arith, length-take}
+use Rattle.std.proofs.Common.{◌≡◌, ◌-◌, ◌*◌, ◌≤◌, ℕ, List, length, ap, subst, sym, arith}
+use Rattle.ntfs_base.proofs.PieceLemmas.{length-piece-le}
 use Rattle.ntfs_make.specs.declared.shape.Shape.{Shape}
 use Rattle.ntfs_make.specs.Volume.{LiesInVolume}
 use Rattle.ntfs_make.proofs.ShapeLemmas.{bounds, times-fits, inside}
@@ -48,13 +49,12 @@ pub write_at-requires : goal.write_at-requires
 write_at-requires g c =
     let shape = c.args.layout.now in
     let lies = c.requires.lies in
-    let some = drop (c.args.area.now.first_vcn * c.shape-cluster.result.cluster - c.in_ok-part.part.place) c.deref.result.now in
     let same : c.shape-cluster.result.cluster ≡ shape.cluster = ap (λ (s : Shape). s.cluster) c.shape-cluster.ensures.is in
-    let cut : length (take (c.args.area.now.length * c.shape-cluster.result.cluster) some) ≤ c.args.area.now.length * c.shape-cluster.result.cluster = simp length-take (omega arith) in
-    let bytes : length c.bytes_between-bytes.result.now ≤ c.args.area.now.length * shape.cluster
-    = subst (λ n. length c.bytes_between-bytes.result.now ≤ c.args.area.now.length * n) same
-    (subst (λ (l : List ℕ). length l ≤ c.args.area.now.length * c.shape-cluster.result.cluster) (sym c.bytes_between-bytes.ensures) cut) in
-    let within = inside c.args.area.now.start c.args.area.now.length shape.clusters shape.cluster (length c.bytes_between-bytes.result.now) lies.clusters bytes in
+    let cut = length-piece-le (c.args.area.now.first_vcn * c.shape-cluster.result.cluster - c.in_ok-part.part.place) (c.args.area.now.length * c.shape-cluster.result.cluster) c.deref.result.now in
+    let bytes : length c.piece-bytes.result.now ≤ c.args.area.now.length * shape.cluster
+    = subst (λ n. length c.piece-bytes.result.now ≤ c.args.area.now.length * n) same
+    (subst (λ (l : List ℕ). length l ≤ c.args.area.now.length * c.shape-cluster.result.cluster) (sym c.piece-bytes.ensures) cut) in
+    let within = inside c.args.area.now.start c.args.area.now.length shape.clusters shape.cluster (length c.piece-bytes.result.now) lies.clusters bytes in
     let place : c.args.area.now.start * c.shape-cluster.result.cluster ≡ c.args.area.now.start * shape.cluster = ap (λ n. c.args.area.now.start * n) same in
     let size = c.requires.size in
     omega (arith, within, place, size)

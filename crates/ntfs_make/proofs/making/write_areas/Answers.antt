@@ -1,8 +1,7 @@
-use Rattle.std.proofs.Common.{◌≡◌, ◌<◌, List, length, map, refl, ap, sym, subst, ◌∙◌, arith}
+use Rattle.std.proofs.Common.{List, map, refl, ap, sym, subst, ◌∙◌, arith}
 use Rattle.ntfs_base.proofs.WritesLemmas.{after_writes-nil}
 use Rattle.ntfs_base.specs.Writes.{Wrote}
 use Rattle.ntfs_make.specs.declared.table.Area.{Area}
-use Rattle.ntfs_make.specs.Areas.{areas_of}
 use Rattle.ntfs_make.specs.Volume.{area_write, LiesInVolume}
 use Rattle.ntfs_make.proofs.AreaLemmas.{AllAreas, all-lie, area-in}
 use Rattle.ntfs_base.proofs.WroteLemmas.{wrote-as, each-done, each-cut, after_writes-size}

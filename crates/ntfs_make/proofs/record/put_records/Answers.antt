@@ -1,6 +1,5 @@
-use Rattle.std.proofs.Common.{◌≡◌, ◌≤◌, ◌++◌, ◌-◌, List, ℕ, length, take, drop, map, ap, sym, ◌∙◌, arith}
+use Rattle.std.proofs.Common.{◌≡◌, ◌++◌, ◌-◌, List, length, take, drop, map, ap, sym, ◌∙◌, arith}
 use Rattle.std.proofs.lemmas.List.{length-map, take-map, drop-map}
-use Rattle.ntfs_make.specs.declared.table.Row.{Row}
 use Rattle.ntfs_make.specs.Table.{RowValue, row_value}
 use Rattle.ntfs_make.specs.Records.{records_bytes, rows_between}
 use Rattle.ntfs_make.proofs.RowLemmas.{take-all, between-cut}

@@ -1,7 +1,6 @@
-use Rattle.std.proofs.Common.{◌≡◌, ◌<◌, ◌+◌, ◌*◌, ℕ, IsTrue, not, refl, ap, sym, subst, arith}
+use Rattle.std.proofs.Common.{◌≡◌, ◌<◌, ◌+◌, ◌*◌, ℕ, IsTrue, not, ap, arith}
 use Rattle.ntfs_make.specs.declared.shape.Shape.{Shape}
 use Rattle.ntfs_make.specs.Shape.{bad_cluster}
-use Rattle.ntfs_make.specs.Streams.{has_area}
 use Rattle.ntfs_make.proofs.BitmapLemmas.{free-byte, is-false}
 use Rattle.ntfs_make.proofs.stream.are_free.Goals as goal
 

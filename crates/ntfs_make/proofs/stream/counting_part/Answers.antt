@@ -1,6 +1,5 @@
 use Rattle.std.proofs.Common.{◌≡◌, ◌*◌, ◌+◌, ◌-◌, ℕ, List, min, subst, ap, sym, ◌∙◌, arith}
 use Rattle.ntfs_make.specs.declared.shape.Shape.{Shape}
-use Rattle.ntfs_make.specs.declared.table.Content.TheVariants.{Counting}
 use Rattle.ntfs_make.specs.Areas.{cluster_count}
 use Rattle.ntfs_make.specs.Streams.{HasBetween, stream_bytes, counting_bytes}
 use Rattle.ntfs_make.proofs.ShapeLemmas.{bounds, times-fits}

@@ -1,4 +1,4 @@
-use Rattle.std.proofs.Common.{◌≡◌, ◌++◌, ◌-◌, List, ℕ, ap, sym, ◌∙◌}
+use Rattle.std.proofs.Common.{◌++◌, List, ap, ◌∙◌}
 use Rattle.ntfs_make.specs.Table.{RowValue}
 use Rattle.ntfs_make.specs.Records.{records_bytes, rows_between}
 use Rattle.ntfs_make.proofs.RowLemmas.{records-between}

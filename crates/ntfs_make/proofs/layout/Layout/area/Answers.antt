@@ -1,7 +1,6 @@
 use Rattle.std.proofs.Common.{◌≡◌, sym, ap, ◌∙◌, subst}
 use Rattle.ntfs_make.specs.declared.shape.Shape.{Shape}
-use Rattle.ntfs_make.specs.declared.table.Area.{Area}
-use Rattle.ntfs_make.specs.Areas.{area_at, areas_of}
+use Rattle.ntfs_make.specs.Areas.{area_at}
 use Rattle.ntfs_make.proofs.AreaLemmas.{area-of, small-area, IsSmall}
 use Rattle.ntfs_make.proofs.layout.Layout.area.Goals as goal
 
