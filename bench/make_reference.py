@@ -313,6 +313,13 @@ def make(seed, clusters, cluster):
     put(listed_runs, pattern(21, 2 * cluster))
     return pieces
 
+def image(seed, clusters, cluster):
+    """The bytes of the volume's file."""
+    whole = bytearray((clusters + 1) * cluster)
+    for place, piece in make(seed, clusters, cluster):
+        whole[place : place + len(piece)] = piece
+    return bytes(whole)
+
 def write(path, pieces, length):
     with open(path, "wb") as image:
         image.truncate(length)

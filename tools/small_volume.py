@@ -12,7 +12,7 @@ from typing import NamedTuple
 sys.path.insert(0, str(pathlib.Path(__file__).resolve().parent.parent / "bench"))
 
 from cat import record  # noqa: E402
-from make_reference import nonresident, resident  # noqa: E402
+from make_reference import extent, resident  # noqa: E402
 
 DATA = 0x80
 RECORD = 1024
@@ -54,9 +54,9 @@ def shown(volume, number):
 
 def attribute(volume, stream):
     if isinstance(stream, bytes):
-        return resident(DATA, 1, stream)
-    runs = [list(run) for run in stream.runs]
-    return nonresident(DATA, 1, runs, volume.cluster, stream.size, stream.valid)
+        return resident(DATA, stream).raw
+    allocated = volume.cluster * sum(count for _, count in stream.runs)
+    return extent(list(stream.runs), (allocated, stream.size, stream.valid)).raw
 
 
 def boot(volume):

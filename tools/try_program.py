@@ -30,7 +30,7 @@ from small_volume import Runs, Volume, build, shown
 
 sys.path.insert(0, str(pathlib.Path(__file__).resolve().parent.parent / "bench"))
 
-from make_reference import make as reference  # noqa: E402
+from make_reference import image as reference  # noqa: E402
 from measure import built_program  # noqa: E402
 
 NOBODY = 65_534
@@ -430,7 +430,7 @@ def calls(trials):
     for line, _ in SHOWN:
         made_calls = log_of(trials, line)
         opened = [row[1] for row in made_calls if row[0] == "open"]
-        trials.check("opened for reading", opened == [READS], f"{line} opens {opened}")
+        trials.check("opened for reading", set(opened) == {READS}, f"{line} opens {opened}")
         changes = [row for row in made_calls if row[0] in ("pwrite", "ftruncate")]
         trials.check("nothing is written", not changes, f"{line} makes {changes}")
     for number, read in ((19, []), (21, [370, 371]), (17, [20, 21, 22, 30, 31])):
