@@ -237,10 +237,50 @@ fn measure<R: Print + Clock>(rt: &R, alloc: Global, inner: u64, walks: bool) -> 
 }
 
 fn main(rt: HostRuntime) -> io::Result<()> {
-    let words = env::args(&rt).count();
+    let words = env::args(&rt)?.count();
     for inner in [7, 72] {
         measure(&rt, rt.alloc(), inner, words < 3)?;
     }
     Ok(())
 }
 """
+
+
+def peak(program, words):
+    """The peak memory of the program in KiB: with one word it walks, with three it only fetches."""
+    done = subprocess.run(["/usr/bin/time", "-f", "%M", program] + words * ["word"], capture_output=True, text=True, check=True)
+    return int(done.stderr.split()[-1])
+
+
+def report(program, lines):
+    for inner in sorted({line[0] for line in lines}):
+        rounds = [line for line in lines if line[0] == inner]
+        fetched, walked = (min(line[i] for line in rounds) for i in (1, 2))
+        print(f"{inner * 1404 - 1:,} names, least of {len(rounds)} rounds")
+        print(f"fetched   {fetched:8} us")
+        print(f"walked    {walked:8} us, {walked / max(fetched, 1):.2f} of fetching")
+    if shutil.which("/usr/bin/time"):
+        print(f"memory    {peak(program, 1) - peak(program, 3):8} KiB more than fetching")
+
+
+def main():
+    with tempfile.TemporaryDirectory() as folder:
+        top = pathlib.Path(folder)
+        for crate in CRATES:
+            shutil.copytree(TOP / "crates" / crate, top / "crates" / crate, ignore=shutil.ignore_patterns("must-fail", "out"))
+        source = top / "crates" / NAME / "src"
+        source.mkdir(parents=True)
+        (source / "main.rt").write_text(PROGRAM)
+        lines = [line for line in (TOP / "crates.txt").read_text().splitlines() if line.split(":")[0] in CRATES]
+        lines.append(f"{NAME}: ntfs_boot ntfs_index byteorder")
+        (top / "crates.txt").write_text("\n".join(lines) + "\n")
+        built = subprocess.run(["rt", "run"], cwd=source.parent, capture_output=True, text=True)
+        program = source.parent / "out" / NAME
+        found = re.findall(r"^(\d+) (\d+) (\d+) (true|false)$", built.stdout, re.MULTILINE)
+        if not found or any(right != "true" for *_, right in found):
+            raise SystemExit(built.stdout + built.stderr)
+        report(program, [tuple(int(number) for number in numbers) for *numbers, _ in found])
+
+
+if __name__ == "__main__":
+    main()

@@ -22,7 +22,7 @@ import tempfile
 
 TOP = pathlib.Path(__file__).resolve().parent.parent
 WORK = re.compile(r"^fn (\w+_(?:is|are)_whole)\(rt: &impl Abort, host: &HostRuntime\)", re.MULTILINE)
-OTHER = re.compile(r"^#\[test\]\n.*?^}\n", re.MULTILINE | re.DOTALL)
+OTHER = re.compile(r"(?:^///[^\n]*\n)*^#\[test\]\n.*?^}\n", re.MULTILINE | re.DOTALL)
 # So many tests are made at once.
 PIECE = 128
 # So many allocations behind the last one that was missed have to be none of the work's.

@@ -217,7 +217,8 @@ def streams(trials):
 
 def made(trials):
     """Volumes of ntfsmake, which are those of the independent generator."""
-    for number, (seed, clusters, cluster) in enumerate(((0, 1024, 4096), (7, 2048, 512), (2, 1025, 65_536))):
+    shapes = [(0, 1024, 4096), (7, 2048, 512), (3, 5000, 512), (2, 1025, 65_536)]
+    for number, (seed, clusters, cluster) in enumerate(shapes + [(seed, 1024, 65_536) for seed in (5, 6, 7)]):
         name = f"made{number}"
         done = trials.run(["ntfsmake", name, seed, clusters, cluster])
         trials.check(name, done == Done(0, b"", b""), done)

@@ -6,7 +6,7 @@ use Rattle.std.proofs.lemmas.List.{length-take-le, length-drop, take-append-drop
 use Rattle.std.proofs.Math.Seq.{take-append_seam}
 use Rattle.ntfs_base.specs.Bytes.{AreBytes}
 use Rattle.ntfs_base.proofs.BytesLemmas.{number_at-take, number_at-append, number_at-lt}
-use Rattle.ntfs_attrlist.specs.Layout.{entry_length, entry_name_units, entry_name_offset, entry_name}
+use Rattle.ntfs_attrlist.specs.Layout.{list_entry_length, entry_name_units, entry_name_offset, entry_name}
 use Rattle.ntfs_attrlist.specs.Entry.{listed_of, IsRawEntry, HasEntryBounds}
 use Rattle.ntfs_attrlist.specs.AttributeList.{BeginsWithEntry, IsBadEntry}
 use Rattle.ntfs_attrlist.specs.Reading.{has_entry, first_raw}
@@ -14,9 +14,9 @@ use Rattle.ntfs_attrlist.specs.Reading.{has_entry, first_raw}
 -- what the test says
 pub record HasFirst (bytes : List ℕ) : Type 0 where
   pub fields : 26 ≤ length bytes
-  pub least : 26 ≤ entry_length bytes
-  pub within : entry_length bytes ≤ length bytes
-  pub name : entry_name_offset bytes + 2 * entry_name_units bytes ≤ entry_length bytes
+  pub least : 26 ≤ list_entry_length bytes
+  pub within : list_entry_length bytes ≤ length bytes
+  pub name : entry_name_offset bytes + 2 * entry_name_units bytes ≤ list_entry_length bytes
 
 pub has_first : (bytes : List ℕ) → has_entry bytes ≡ true → HasFirst bytes
 unfolding has_entry
@@ -30,23 +30,23 @@ first_has : (bytes : List ℕ) → HasFirst bytes → has_entry bytes ≡ true
 unfolding has_entry
 first_has bytes h =
     let fields = le-leb 26 (length bytes) h.fields in
-    let least = le-leb 26 (entry_length bytes) h.least in
-    let within = le-leb (entry_length bytes) (length bytes) h.within in
-    let name = le-leb (entry_name_offset bytes + 2 * entry_name_units bytes) (entry_length bytes) h.name in
+    let least = le-leb 26 (list_entry_length bytes) h.least in
+    let within = le-leb (list_entry_length bytes) (length bytes) h.within in
+    let name = le-leb (entry_name_offset bytes + 2 * entry_name_units bytes) (list_entry_length bytes) h.name in
     rw (fields, least, within, name) refl
 
 -- ---- the entry's own bytes
 
-pub length-first_raw : (bytes : List ℕ) → HasFirst bytes → length (first_raw bytes) ≡ entry_length bytes
-length-first_raw bytes h = length-take-le (entry_length bytes) bytes h.within
+pub length-first_raw : (bytes : List ℕ) → HasFirst bytes → length (first_raw bytes) ≡ list_entry_length bytes
+length-first_raw bytes h = length-take-le (list_entry_length bytes) bytes h.within
 
 -- the bytes that the length counts are an entry
 pub first_raw-is : (bytes : List ℕ) → HasFirst bytes → IsRawEntry (first_raw bytes)
 first_raw-is bytes h =
     let size = length-first_raw bytes h in
-    let whole : entry_length (first_raw bytes) ≡ entry_length bytes = number_at-take 2 4 (entry_length bytes) bytes (omega (arith, h.least)) in
-    let offset : entry_name_offset (first_raw bytes) ≡ entry_name_offset bytes = number_at-take 1 7 (entry_length bytes) bytes (omega (arith, h.least)) in
-    let units : entry_name_units (first_raw bytes) ≡ entry_name_units bytes = number_at-take 1 6 (entry_length bytes) bytes (omega (arith, h.least)) in
+    let whole : list_entry_length (first_raw bytes) ≡ list_entry_length bytes = number_at-take 2 4 (list_entry_length bytes) bytes (omega (arith, h.least)) in
+    let offset : entry_name_offset (first_raw bytes) ≡ entry_name_offset bytes = number_at-take 1 7 (list_entry_length bytes) bytes (omega (arith, h.least)) in
+    let units : entry_name_units (first_raw bytes) ≡ entry_name_units bytes = number_at-take 1 6 (list_entry_length bytes) bytes (omega (arith, h.least)) in
     record {
       fields = omega (arith, size, h.least);
       whole = whole ∙ sym size;
@@ -56,7 +56,7 @@ first_raw-is bytes h =
 -- an entry in front passes the test, and is the bytes that its length counts
 pub raw_has : (raw more : List ℕ) → IsRawEntry raw → HasFirst (raw ++ more)
 raw_has raw more is =
-    let size : entry_length (raw ++ more) ≡ entry_length raw = number_at-append 2 4 raw more (omega (arith, is.fields)) in
+    let size : list_entry_length (raw ++ more) ≡ list_entry_length raw = number_at-append 2 4 raw more (omega (arith, is.fields)) in
     let offset : entry_name_offset (raw ++ more) ≡ entry_name_offset raw = number_at-append 1 7 raw more (omega (arith, is.fields)) in
     let units : entry_name_units (raw ++ more) ≡ entry_name_units raw = number_at-append 1 6 raw more (omega (arith, is.fields)) in
     let all = length-append raw more in
@@ -70,11 +70,11 @@ raw_has raw more is =
 pub has_entry-raw : (raw more : List ℕ) → IsRawEntry raw → has_entry (raw ++ more) ≡ true
 has_entry-raw raw more is = first_has (raw ++ more) (raw_has raw more is)
 
-pub entry_length-raw : (raw more : List ℕ) → IsRawEntry raw → entry_length (raw ++ more) ≡ length raw
-entry_length-raw raw more is = number_at-append 2 4 raw more (omega (arith, is.fields)) ∙ is.whole
+pub list_entry_length-raw : (raw more : List ℕ) → IsRawEntry raw → list_entry_length (raw ++ more) ≡ length raw
+list_entry_length-raw raw more is = number_at-append 2 4 raw more (omega (arith, is.fields)) ∙ is.whole
 
 pub first_raw-raw : (raw more : List ℕ) → IsRawEntry raw → first_raw (raw ++ more) ≡ raw
-first_raw-raw raw more is = ap (λ (n : ℕ). take n (raw ++ more)) (entry_length-raw raw more is) ∙ take-append_seam raw more
+first_raw-raw raw more is = ap (λ (n : ℕ). take n (raw ++ more)) (list_entry_length-raw raw more is) ∙ take-append_seam raw more
 
 -- ---- whether there is one, and why there is none
 
@@ -89,7 +89,7 @@ pub begins-has : (bytes : List ℕ) → BeginsWithEntry bytes → has_entry byte
 begins-has bytes (raw, more, joined, is) = ap has_entry joined ∙ has_entry-raw raw more is
 
 pub has-begins : (bytes : List ℕ) → has_entry bytes ≡ true → BeginsWithEntry bytes
-has-begins bytes e = (first_raw bytes, drop (entry_length bytes) bytes, sym (take-append-drop (entry_length bytes) bytes), first_raw-is bytes (has_first bytes e))
+has-begins bytes e = (first_raw bytes, drop (list_entry_length bytes) bytes, sym (take-append-drop (list_entry_length bytes) bytes), first_raw-is bytes (has_first bytes e))
 
 pub none-has : (bytes : List ℕ) → has_entry bytes ≡ false → ¬ BeginsWithEntry bytes
 none-has bytes e begins = true_false (has_entry bytes) (begins-has bytes begins) e

@@ -2,7 +2,7 @@
 -- "$ATTRIBUTE_LIST": a list is its entries one after another). Where no source is named, the word is ours.
 use Rattle.std.specs.Prelude.{◌≡◌, ◌≢◌, ◌<◌, ◌+◌, ◌*◌, ◌⊎◌, ℕ, List, [], ◌∷◌, ◌++◌, length, map}
 use Rattle.std.specs.List.{concat}
-use Rattle.ntfs_attrlist.specs.Layout.{entry_length, entry_name_units, entry_name_offset}
+use Rattle.ntfs_attrlist.specs.Layout.{list_entry_length, entry_name_units, entry_name_offset}
 use Rattle.ntfs_attrlist.specs.Entry.{Listed, listed_of, IsRawEntry}
 
 -- each of these is the bytes of one entry
@@ -35,5 +35,5 @@ pub record BreaksAt (bytes : List ℕ) (entries : List Listed) (place : ℕ) : T
 -- length is below 26 or passes their end, or its name passes its length
 abbrev pub IsBadEntry : List ℕ → Type 0
 IsBadEntry bytes =
-    (length bytes < 26) ⊎ ((entry_length bytes < 26) ⊎ ((length bytes < entry_length bytes)
-    ⊎ (entry_length bytes < entry_name_offset bytes + 2 * entry_name_units bytes)))
+    (length bytes < 26) ⊎ ((list_entry_length bytes < 26) ⊎ ((length bytes < list_entry_length bytes)
+    ⊎ (list_entry_length bytes < entry_name_offset bytes + 2 * entry_name_units bytes)))

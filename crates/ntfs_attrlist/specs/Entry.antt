@@ -1,6 +1,6 @@
 -- One entry of an attribute list, and what it says (the Linux-NTFS documentation, "$ATTRIBUTE_LIST").
 use Rattle.std.specs.Prelude.{◌≡◌, ◌≤◌, ◌<◌, ◌+◌, ◌*◌, ◌%◌, ◌^◌, ℕ, List, length}
-use Rattle.ntfs_attrlist.specs.Layout.{entry_kind, entry_length, entry_name_units, entry_name_offset, entry_lowest, entry_reference, entry_instance, entry_name}
+use Rattle.ntfs_attrlist.specs.Layout.{entry_kind, list_entry_length, entry_name_units, entry_name_offset, entry_lowest, entry_reference, entry_instance, entry_name}
 
 -- what an entry says of one attribute: its type, its name, the lowest VCN that it holds, the reference of the file
 -- record in which it stands, and its instance there
@@ -25,7 +25,7 @@ listed_of raw = record {
 -- name ends within them, an empty one too
 pub record IsRawEntry (raw : List ℕ) : Type 0 where
   pub fields : 26 ≤ length raw
-  pub whole : entry_length raw ≡ length raw
+  pub whole : list_entry_length raw ≡ length raw
   pub name : entry_name_offset raw + 2 * entry_name_units raw ≤ length raw
 
 -- what an entry of a list of so many bytes says fits the fields that hold it, and its name lies in the list; a word of

@@ -9,8 +9,8 @@ abbrev pub entry_kind : List ℕ → ℕ
 entry_kind raw = number_at 4 0x00 raw
 
 -- length, u16 at 0x04: the bytes of the entry
-abbrev pub entry_length : List ℕ → ℕ
-entry_length raw = number_at 2 0x04 raw
+abbrev pub list_entry_length : List ℕ → ℕ
+list_entry_length raw = number_at 2 0x04 raw
 
 -- name_length, u8 at 0x06: the units of the attribute's name, of two bytes each
 abbrev pub entry_name_units : List ℕ → ℕ

@@ -3,32 +3,33 @@
 use Rattle.std.specs.Prelude.{◌<◌, ◌+◌, ◌-◌, ◌*◌, ◌&&◌, ℕ, zero, suc, List, [], ◌∷◌, ◌++◌, length, take, map, Bool, Result, Ok, Err, MatchResult, nat_le, if◌then◌else◌}
 use Rattle.std.specs.Result.{result_map_both}
 use Rattle.ntfs_attrlist.specs.declared.fault.BadEntry.{BadEntry}
-use Rattle.ntfs_attrlist.specs.Layout.{entry_length, entry_name_units, entry_name_offset}
+use Rattle.ntfs_attrlist.specs.Layout.{list_entry_length, entry_name_units, entry_name_offset}
 use Rattle.ntfs_attrlist.specs.Entry.{Listed, listed_of, HasEntryBounds}
 
 -- an entry stands at the front of the bytes
 unfoldable pub has_entry : List ℕ → Bool
 has_entry bytes =
-    nat_le 26 (length bytes) && (nat_le 26 (entry_length bytes) && (nat_le (entry_length bytes) (length bytes)
-    && nat_le (entry_name_offset bytes + 2 * entry_name_units bytes) (entry_length bytes)))
+    nat_le 26 (length bytes) && (nat_le 26 (list_entry_length bytes) && (nat_le (list_entry_length bytes) (length bytes)
+    && nat_le (entry_name_offset bytes + 2 * entry_name_units bytes) (list_entry_length bytes)))
 
 -- the bytes of the entry at the front
 abbrev pub first_raw : List ℕ → List ℕ
-first_raw bytes = take (entry_length bytes) bytes
+first_raw bytes = take (list_entry_length bytes) bytes
 
 -- the entries of the bytes behind so many that belong to the entry before, and the fault where one stands; place is the
 -- place of the bytes in the list
-unfoldable pub items_from : ℕ → ℕ → List ℕ → List (Result Listed BadEntry)
-items_from skip place [] = []
-items_from (suc skip) place (byte ∷ bytes) = items_from skip (suc place) bytes
-items_from zero place (byte ∷ bytes) =
+unfoldable pub list_items_from : ℕ → ℕ → List ℕ → List (Result Listed BadEntry)
+list_items_from skip place [] = []
+list_items_from (suc skip) place (byte ∷ bytes) = list_items_from skip (suc place) bytes
+list_items_from zero place (byte ∷ bytes) =
     if has_entry (byte ∷ bytes)
-    then Ok (listed_of (first_raw (byte ∷ bytes))) ∷ items_from (entry_length (byte ∷ bytes) - 1) (suc place) bytes
+    then Ok (listed_of (first_raw (byte ∷ bytes))) ∷ list_items_from (list_entry_length (byte ∷ bytes) - 1)
+    (suc place) bytes
     else Err (record { place = place }) ∷ []
 
 -- the entries of an attribute list, and the fault where one stands
 unfoldable pub list_items : List ℕ → List (Result Listed BadEntry)
-list_items bytes = items_from 0 0 bytes
+list_items bytes = list_items_from 0 0 bytes
 
 -- all values, or the first error
 abbrev pub all_or_first : {T E : Type 0} → List (Result T E) → Result (List T) E

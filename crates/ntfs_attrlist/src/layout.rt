@@ -14,9 +14,9 @@ pub(crate) fn entry_kind(raw: &[u8]) -> u32
 }
 
 #[tactic(auto, using(crate::proofs::FieldLemmas::number_at_slice))]
-pub(crate) fn entry_length(raw: &[u8]) -> u16
+pub(crate) fn list_entry_length(raw: &[u8]) -> u16
     requires { 26 ≤ length raw.now }
-    ensures { result ≡ spec.entry_length raw.now }
+    ensures { result ≡ spec.list_entry_length raw.now }
 {
     LittleEndian::read_u16(&raw[0x04..])
 }

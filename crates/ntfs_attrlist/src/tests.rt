@@ -66,7 +66,7 @@ fn put(bytes: &mut [u8], patches: &[Patch]) {
 }
 
 /// The list, with some bytes changed.
-fn changed(patches: &[Patch]) -> [u8; LENGTH] {
+fn change(patches: &[Patch]) -> [u8; LENGTH] {
     let mut bytes = [0; LENGTH];
     put(&mut bytes, &FIRST);
     put(&mut bytes, &SECOND);
@@ -77,7 +77,7 @@ fn changed(patches: &[Patch]) -> [u8; LENGTH] {
 
 #[test]
 fn the_entries_are_shown(rt: HostRuntime) {
-    let bytes = changed(&[]);
+    let bytes = change(&[]);
     let mut found = entries(&bytes);
     assert_eq!(rt;
         found.next(),
@@ -119,7 +119,7 @@ type Row = ([Patch; 2], usize, usize, Option<usize>);
 
 fn reads(rt: &impl Abort, row: Row) -> Result<(), Fail> {
     let (patches, length, good, bad) = row;
-    let bytes = changed(&patches);
+    let bytes = change(&patches);
     let list = bytes.get(..length).ok_or("a length")?;
     let mut found = entries(list);
     for _ in 0..good {
@@ -195,9 +195,9 @@ fn entry_count(list: &[u8]) -> Result<usize, BadEntry>
 
 #[test]
 fn a_caller_counts_them(rt: HostRuntime) {
-    assert_eq!(rt; entry_count(&changed(&[])), Ok(3));
+    assert_eq!(rt; entry_count(&change(&[])), Ok(3));
     assert_eq!(rt;
-        entry_count(&changed(&[(68, 28)])),
+        entry_count(&change(&[(68, 28)])),
         Err(BadEntry { place: 64 })
     );
 }

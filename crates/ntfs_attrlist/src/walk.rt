@@ -4,7 +4,7 @@ ghost use Rattle.ntfs_attrlist.specs.Views.{shown_item};
 
 use crate::entry::{ListEntry, entry_from};
 use crate::fault::BadEntry;
-use crate::layout::{entry_length, entry_name_offset, entry_name_units};
+use crate::layout::{entry_name_offset, entry_name_units, list_entry_length};
 use std::marker::Model;
 
 /// The bytes of an entry's fields, which its name follows.
@@ -18,7 +18,7 @@ fn has_entry(bytes: &[u8]) -> bool
     if bytes.len() < FIELDS {
         return false;
     }
-    let size = usize::from(entry_length(bytes));
+    let size = usize::from(list_entry_length(bytes));
     let name_end = usize::from(entry_name_offset(bytes)) + 2 * usize::from(entry_name_units(bytes));
     FIELDS <= size && size <= bytes.len() && name_end <= size
 }
@@ -35,11 +35,11 @@ impl<'a> Model for Entries<'a> {
     ghost use Rattle.std.specs.Prelude.{◌+◌, ◌<◌, ◌^◌, List, Result, length};
     ghost use Rattle.ntfs_attrlist.specs.declared.fault.BadEntry.{BadEntry};
     ghost use Rattle.ntfs_attrlist.specs.Entry.{Listed};
-    ghost use Rattle.ntfs_attrlist.specs.Reading.{items_from};
+    ghost use Rattle.ntfs_attrlist.specs.Reading.{list_items_from};
 
     ghost Value = { List (Result Listed BadEntry) };
 
-    ghost view = { λ e. items_from 0 e.place e.rest.now };
+    ghost view = { λ e. list_items_from 0 e.place e.rest.now };
 
     ghost invariant = { λ e. e.place + length e.rest.now < 2 ^ 64 };
 }
@@ -67,7 +67,9 @@ impl<'a> Entries<'a> {
             self.rest = &[];
             return Some(Err(BadEntry { place: self.place }));
         }
-        let (raw, rest) = self.rest.split_at(usize::from(entry_length(self.rest)));
+        let (raw, rest) = self
+            .rest
+            .split_at(usize::from(list_entry_length(self.rest)));
         self.rest = rest;
         self.place += raw.len();
         Some(Ok(entry_from(raw)))

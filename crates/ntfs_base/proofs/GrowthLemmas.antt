@@ -4,11 +4,11 @@ use Rattle.std.proofs.lemmas.List.{length-take, length-replicate}
 use Rattle.ntfs_base.specs.FileStream.{sink_of}
 use Rattle.ntfs_base.specs.Image.{ImageState}
 use Rattle.ntfs_base.specs.Sink.{Put, after_put}
-use Rattle.ntfs_base.specs.Growth.{resized, after_set_len, after_append, SetLength, Appended}
+use Rattle.ntfs_base.specs.Growth.{resize_of, after_set_len, after_append, SetLength, Appended}
 
 -- a content at another length has it
-pub length-resized : (len : ℕ) (content : List ℕ) → length (resized len content) ≡ len
-unfolding resized
+pub length-resized : (len : ℕ) (content : List ℕ) → length (resize_of len content) ≡ len
+unfolding resize_of
 length-resized len content = simp (length-append, length-take, length-replicate) (omega arith)
 
 after_set_len-name : (len : ℕ) (file : ImageState) → (after_set_len len file).name ≡ file.name

@@ -3,7 +3,7 @@ use Rattle.std.proofs.Common.{◌≡◌, ◌≤◌, ◌⊎◌, ℕ, List, [], �
 use Rattle.std.proofs.lemmas.List.{append-nil}
 use Rattle.ntfs_base.specs.Bytes.{overwrite}
 use Rattle.ntfs_base.specs.Calls.{left_by, next_failing}
-use Rattle.ntfs_base.specs.Growth.{resized, after_set_len, after_append, SetLength, Appended}
+use Rattle.ntfs_base.specs.Growth.{resize_of, after_set_len, after_append, SetLength, Appended}
 use Rattle.ntfs_base.specs.Writes.{Write, after_writes, Wrote}
 use Rattle.ntfs_base.specs.Memory.{WritesMemory, SetsMemory, AppendsMemory, seen_of}
 use Rattle.ntfs_base.specs.declared.fault.PutFault.{PutFault}
@@ -39,7 +39,7 @@ wrote_memory name w old new (Err e) is = record { whole = tt; part = left (next_
     left (Some leaves.Asked) same = (1, omega arith, asked_memory name w old new same is.len)
     left (Some (leaves.Front n)) same = (0, omega arith, same_memory name old new same)
 
-resized_memory : (name : List ℕ) (len : ℕ) (old new : MemContent) → new.bytes.items ≡ resized len old.bytes.items
+resized_memory : (name : List ℕ) (len : ℕ) (old new : MemContent) → new.bytes.items ≡ resize_of len old.bytes.items
     → seen_of name new ≡ after_set_len len (seen_of name old)
 unfolding after_set_len
 resized_memory name len old new same = rw (same, length-resized len old.bytes.items) refl
@@ -49,7 +49,7 @@ pub set_memory : (name : List ℕ) (len : ℕ) (old new : MemContent) (result : 
 set_memory name len old new (Ok x) is = record { whole = resized_memory name len old new is.1; part = tt }
 set_memory name len old new (Err put.Failed) is = record { whole = tt; part = left (next_failing old.calls) is.1 }
   where
-    left : (plan : Option Leaves) → new.bytes.items ≡ left_by plan old.bytes.items (resized len old.bytes.items)
+    left : (plan : Option Leaves) → new.bytes.items ≡ left_by plan old.bytes.items (resize_of len old.bytes.items)
         → (seen_of name new ≡ seen_of name old) ⊎ (seen_of name new ≡ after_set_len len (seen_of name old))
     left None same = inl (same_memory name old new same)
     left (Some leaves.Before) same = inl (same_memory name old new same)

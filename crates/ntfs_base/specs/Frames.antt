@@ -1,6 +1,6 @@
--- What a call over something outside keeps, and how its answer is tied to a definition, for every crate alike. A trait's
--- ghosts are one argument (`G.Image` in a clause), and each enum of refusals brings one function into `Origin`. The words
--- are ours.
+-- What a call over something outside keeps, and how its answer is tied to a definition, for every crate alike. A
+-- trait's ghosts are one argument (`G.Image` in a clause), and each enum of refusals brings one function into
+-- `Origin`. The words are ours.
 use Rattle.std.specs.Prelude.{◌≡◌, ◌≤◌, ℕ, Bool, true, false, List, [], length, take, Result, Ok, Err, IfErr, IsTrue}
 use Rattle.ntfs_base.specs.Causes.{HaveNotFallen, Rose}
 use Rattle.ntfs_base.specs.Image.{ImageState}
@@ -76,13 +76,15 @@ pub record OnlyReads {G T E : Type 0} (g : image.Ghosts G) (origin : E → Origi
     (result : Result T E) : Type 0 where
   pub seen : g.seen new ≡ g.seen old
   pub counts : HaveNotFallen (g.faults old) (g.faults new)
-  pub cause : IfErr result (λ fault. Because (origin fault) (Rose (g.faults old).reads (g.faults new).reads) ⊥ (Unit {0}))
+  pub cause : IfErr result (λ fault. Because (origin fault) (Rose (g.faults old).reads (g.faults new).reads) ⊥
+      (Unit {0}))
 
 -- a call over an image that is written, and not read
 pub record OnlyWrites {G T E : Type 0} (g : image.Ghosts G) (origin : E → Origin) (old new : G)
     (result : Result T E) : Type 0 where
   pub counts : HaveNotFallen (g.faults old) (g.faults new)
-  pub cause : IfErr result (λ fault. Because (origin fault) ⊥ (Rose (g.faults old).writes (g.faults new).writes) (Unit {0}))
+  pub cause : IfErr result (λ fault. Because (origin fault) ⊥ (Rose (g.faults old).writes (g.faults new).writes)
+      (Unit {0}))
 
 -- a call over an image that is only read, and a sink
 pub record Copies {G K T E : Type 0} (g : image.Ghosts G) (k : sink.Ghosts K) (origin : E → Origin) (old new : G)
@@ -97,7 +99,8 @@ pub record Copies {G K T E : Type 0} (g : image.Ghosts G) (k : sink.Ghosts K) (o
 pub record OnlyPuts {K T E : Type 0} (k : sink.Ghosts K) (origin : E → Origin) (before after : K)
     (result : Result T E) : Type 0 where
   pub puts : SinkHasNotFallen (k.faults before) (k.faults after)
-  pub cause : IfErr result (λ fault. Because (origin fault) ⊥ (Rose (k.faults before).failures (k.faults after).failures)
+  pub cause : IfErr result (λ fault. Because (origin fault) ⊥
+      (Rose (k.faults before).failures (k.faults after).failures)
       (Rose (k.faults before).wants (k.faults after).wants))
 
 -- a call over a source, and over nothing else outside

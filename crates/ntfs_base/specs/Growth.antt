@@ -5,13 +5,13 @@ use Rattle.ntfs_base.specs.declared.fault.PutFault.{PutFault}
 use Rattle.ntfs_base.specs.declared.fault.PutFault.TheVariants as put
 
 -- a content at another length: its front, or all of it with zeros behind
-unfoldable pub resized : ℕ → List ℕ → List ℕ
-resized len content = take len content ++ replicate (len - length content) 0
+unfoldable pub resize_of : ℕ → List ℕ → List ℕ
+resize_of len content = take len content ++ replicate (len - length content) 0
 
 -- the file at another length: all but its content and its length as before
 unfoldable pub after_set_len : ℕ → ImageState → ImageState
 after_set_len len file =
-    record file { content = if file.is_told then resized len file.content else file.content; size = len }
+    record file { content = if file.is_told then resize_of len file.content else file.content; size = len }
 
 -- the file with these bytes at its end: all but its content and its length as before
 unfoldable pub after_append : List ℕ → ImageState → ImageState

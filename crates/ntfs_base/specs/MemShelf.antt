@@ -6,6 +6,8 @@ use Rattle.std.specs.String.{string_bytes}
 use Rattle.std.specs.FinMap as files
 use Rattle.std.specs.declared.alloc.Global.{Global}
 use Rattle.ntfs_base.specs.Calls.{failing_at, one_more, plan_call}
+use Rattle.ntfs_base.specs.Image.{ImageState}
+use Rattle.ntfs_base.specs.Memory.{seen_of}
 use Rattle.ntfs_base.specs.Shelf.{Files, ShelfState}
 use Rattle.ntfs_base.specs.declared.calls.FailingCall.{FailingCall}
 use Rattle.ntfs_base.specs.declared.calls.Leaves.{Leaves}
@@ -117,7 +119,16 @@ pub record IsFresh (name : List ℕ) (p : Place) : Type 0 where
 
 -- a shelf in memory as contracts see it: its files are told
 abbrev pub seen_mem_shelf : List Place → List (String Global) → ShelfState
-seen_mem_shelf places attached = record { is_told = true; files = files_of places; attached = map string_bytes attached }
+seen_mem_shelf places attached = record {
+  is_told = true;
+  files = files_of places;
+  attached = map string_bytes
+      attached;
+}
+
+-- a file of a shelf in memory as contracts see it
+abbrev pub seen_mem_file : MemFile → ImageState
+seen_mem_file file = seen_of (string_bytes file.name) file.inside
 
 -- the places of all other names stay as they were
 abbrev pub KeepsOthers : List ℕ → List Place → List Place → Type 0
@@ -153,8 +164,8 @@ pub record KeepsAll (old new : List Place) : Type 0 where
   pub made : (name : List ℕ) → made_by (place_of name new) ≡ made_by (place_of name old)
   pub failing : (name : List ℕ) → failing_by (place_of name new) ≡ failing_by (place_of name old)
 
--- a file of this name stands on the shelf, with no call under it and none that is to fail; the places of all other names
--- stay
+-- a file of this name stands on the shelf, with no call under it and none that is to fail; the places of all other
+-- names stay
 pub record AddsFile (name bytes : List ℕ) (old new : List Place) : Type 0 where
   pub files : files_of new ≡ files.insert (files_of old) name bytes
   pub made : made_by (place_of name new) ≡ 0

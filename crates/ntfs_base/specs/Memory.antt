@@ -2,7 +2,7 @@
 use Rattle.std.specs.Prelude.{◌≡◌, ◌<◌, ◌++◌, ℕ, List, OnOk, OnErr, Result, Ok, Err, None, is_some, [], true, length}
 use Rattle.ntfs_base.specs.Bytes.{overwrite}
 use Rattle.ntfs_base.specs.Calls.{AsPlanned, count_after, front_by, left_by, next_failing, one_more}
-use Rattle.ntfs_base.specs.Growth.{resized}
+use Rattle.ntfs_base.specs.Growth.{resize_of}
 use Rattle.ntfs_base.specs.Image.{ImageState}
 use Rattle.ntfs_base.specs.Writes.{Write}
 use Rattle.ntfs_base.specs.declared.fault.PutFault.{PutFault}
@@ -43,10 +43,10 @@ pub record SyncsMemory {T E : Type 0} (old : MemContent) (result : Result T E) (
 -- wanting, which it can be only where the bytes grow
 abbrev pub SetsMemory : ℕ → MemContent → Result (Unit {0}) PutFault → MemContent → Type 0
 SetsMemory len old (Ok done) new =
-    (next_failing old.calls ≡ None) × (new.bytes.items ≡ resized len old.bytes.items) × (new.faults ≡ old.faults)
+    (next_failing old.calls ≡ None) × (new.bytes.items ≡ resize_of len old.bytes.items) × (new.faults ≡ old.faults)
 SetsMemory len old (Err put.Failed) new =
     (is_some (next_failing old.calls) ≡ true)
-    × (new.bytes.items ≡ left_by (next_failing old.calls) old.bytes.items (resized len old.bytes.items))
+    × (new.bytes.items ≡ left_by (next_failing old.calls) old.bytes.items (resize_of len old.bytes.items))
     × (new.faults ≡ record old.faults { writes = one_more old.faults.writes })
 SetsMemory len old (Err put.NoMemory) new =
     (length old.bytes.items < len) × (new.bytes.items ≡ old.bytes.items) × (new.faults ≡ old.faults)

@@ -56,9 +56,11 @@ impl<F: HostFile> Sink for FileSink<F> {
 
     fn put(&mut self, bytes: &[u8]) -> Result<(), PutFault>
         ensures put { Put bytes.now (sink_of (F.seen self.old.file)) result (sink_of (F.seen self.new.file)) }
-        ensures nothing { IfErr result (λ fault. PutsNothing fault (sink_of (F.seen self.old.file)) (sink_of (F.seen self.new.file))) }
+        ensures nothing { IfErr result (λ fault. PutsNothing fault (sink_of (F.seen self.old.file))
+            (sink_of (F.seen self.new.file))) }
         ensures waits { self.new.is_flushed ≡ false }
-        ensures cause { SinkCause (sink_counts (F.faults self.old.file) self.old.wants) (sink_counts (F.faults self.new.file) self.new.wants) result }
+        ensures cause { SinkCause (sink_counts (F.faults self.old.file) self.old.wants)
+            (sink_counts (F.faults self.new.file) self.new.wants) result }
         ensures file { Appended bytes.now (F.seen self.old.file) result (F.seen self.new.file) }
         ensures counts { GrowthCause (F.faults self.old.file) (F.faults self.new.file) result }
         ensures wants { self.new.wants ≡ wants_after result self.old.wants }
@@ -78,7 +80,8 @@ impl<F: HostFile> Sink for FileSink<F> {
         ensures seen { sink_of (F.seen self.new.file) ≡ sink_of (F.seen self.old.file) }
         ensures flushed { OnOk result (self.new.is_flushed ≡ true) }
         ensures failed { OnErr result (self.new.is_flushed ≡ self.old.is_flushed) }
-        ensures cause { FlushCause (sink_counts (F.faults self.old.file) self.old.wants) (sink_counts (F.faults self.new.file) self.new.wants) result }
+        ensures cause { FlushCause (sink_counts (F.faults self.old.file) self.old.wants)
+            (sink_counts (F.faults self.new.file) self.new.wants) result }
         ensures file { F.seen self.new.file ≡ F.seen self.old.file }
         ensures counts { WriteCause (F.faults self.old.file) (F.faults self.new.file) result }
         ensures wants { self.new.wants ≡ self.old.wants }

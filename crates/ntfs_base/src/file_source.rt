@@ -46,9 +46,12 @@ impl<F: HostFile> Source for FileSource<F> {
     /// It gives as many bytes as there is room for, up to the file's length, which is known of an untold file too.
     fn take(&mut self, into: &mut [u8]) -> Result<usize, Failed>
         ensures room { IfOk result (λ n. n ≤ length into.old) }
-        ensures gives { IfOk result (λ n. IsTrue (F.seen self.old.file).is_told → GivesNext (source_of (F.seen self.old.file) self.old.given) n into.new) }
-        ensures given { IfOk result (λ n. source_of (F.seen self.new.file) self.new.given ≡ after_take n (source_of (F.seen self.old.file) self.old.given)) }
-        ensures failed { OnErr result (source_of (F.seen self.new.file) self.new.given ≡ source_of (F.seen self.old.file) self.old.given) }
+        ensures gives { IfOk result (λ n. IsTrue (F.seen self.old.file).is_told
+            → GivesNext (source_of (F.seen self.old.file) self.old.given) n into.new) }
+        ensures given { IfOk result (λ n. source_of (F.seen self.new.file) self.new.given
+            ≡ after_take n (source_of (F.seen self.old.file) self.old.given)) }
+        ensures failed { OnErr result (source_of (F.seen self.new.file) self.new.given
+            ≡ source_of (F.seen self.old.file) self.old.given) }
         ensures cause { SourceCause (F.faults self.old.file).reads (F.faults self.new.file).reads result }
         ensures most { IfOk result (λ n. n ≡ min (length into.old) ((F.seen self.old.file).size - self.old.given)) }
         ensures place { IfOk result (λ n. self.new.given ≡ self.old.given + n) }

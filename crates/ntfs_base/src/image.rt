@@ -23,7 +23,8 @@ pub trait Image {
     /// Reads the bytes from a place on, as many as the slice has. After `Failed` the slice holds anything.
     fn read_at(&mut self, at: u64, into: &mut [u8]) -> Result<(), Failed>
         requires { at + length into.old ≤ (seen self.old).size }
-        ensures bytes { OnOk result (IsTrue (seen self.old).is_told → into.new ≡ slice_range (seen self.old).content at (at + length into.old)) }
+        ensures bytes { OnOk result (IsTrue (seen self.old).is_told
+            → into.new ≡ slice_range (seen self.old).content at (at + length into.old)) }
         ensures seen { seen self.new ≡ seen self.old }
         ensures cause { ReadCause (faults self.old) (faults self.new) result };
 
@@ -44,8 +45,8 @@ pub trait Image {
 
 /// A file of a shelf: an image that may be cut or made longer.
 pub trait HostFile: Image {
-    /// Sets the length: cuts the file, or extends it with zeros. After `Failed` the file is as before or as asked, after
-    /// `NoMemory` as before.
+    /// Sets the length: cuts the file, or extends it with zeros. After `Failed` the file is as before or as asked,
+    /// after `NoMemory` as before.
     fn set_len(&mut self, len: u64) -> Result<(), PutFault>
         ensures set { SetLength len (Self.seen self.old) result (Self.seen self.new) }
         ensures nothing { IfErr result (λ fault. KeepsFile fault (Self.seen self.old) (Self.seen self.new)) }

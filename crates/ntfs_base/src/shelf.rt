@@ -20,20 +20,24 @@ pub trait Shelf {
     /// and never `Present`.
     fn attach(&mut self, name: &str) -> Result<Self::File, ShelfFault>
         requires { has_name name.now (seen self.old).attached ≡ false }
-        ensures file { IfOk result (λ file. IsHandedOut (seen self.old) name.now (Self.File.seen file) (Self.File.faults file)) }
+        ensures file { IfOk result (λ file. IsHandedOut (seen self.old) name.now (Self.File.seen file)
+            (Self.File.faults file)) }
         ensures attached { OnOk result (seen self.new ≡ after_attach name.now (seen self.old)) }
         ensures refused { OnErr result (seen self.new ≡ seen self.old) }
-        ensures refusal { IfErr result (λ fault. AttachCause fault (seen self.old) name.now (faults self.old) (faults self.new)) }
+        ensures refusal { IfErr result (λ fault. AttachCause fault (seen self.old) name.now (faults self.old)
+            (faults self.new)) }
         ensures counts { HaveNotFallen (faults self.old) (faults self.new) };
 
     /// Makes an empty file of a name, in place of one that is there, and hands it out; it has to be released again. It
     /// answers `Present` exactly where the file must be new and there is one, and never `Absent`.
     fn create(&mut self, name: &str, must_be_new: bool) -> Result<Self::File, ShelfFault>
         requires { has_name name.now (seen self.old).attached ≡ false }
-        ensures file { IfOk result (λ file. IsCreated (seen self.old) name.now must_be_new (Self.File.seen file) (Self.File.faults file)) }
+        ensures file { IfOk result (λ file. IsCreated (seen self.old) name.now must_be_new (Self.File.seen file)
+            (Self.File.faults file)) }
         ensures created { OnOk result (seen self.new ≡ after_create name.now (seen self.old)) }
         ensures refused { OnErr result (seen self.new ≡ seen self.old) }
-        ensures refusal { IfErr result (λ fault. CreateCause fault (seen self.old) name.now must_be_new (faults self.old) (faults self.new)) }
+        ensures refusal { IfErr result (λ fault. CreateCause fault (seen self.old) name.now must_be_new
+            (faults self.old) (faults self.new)) }
         ensures counts { HaveNotFallen (faults self.old) (faults self.new) };
 
     /// Takes a file back: its content stands under its name, and its faults are the shelf's.
@@ -41,6 +45,7 @@ pub trait Shelf {
         requires { has_name (Self.File.seen file).name (seen self.old).attached ≡ true }
         ensures released { seen self.new ≡ after_release (Self.File.seen file) (seen self.old) }
         ensures reads { (faults self.new).reads ≡ added_count (faults self.old).reads (Self.File.faults file).reads }
-        ensures writes { (faults self.new).writes ≡ added_count (faults self.old).writes (Self.File.faults file).writes }
+        ensures writes { (faults self.new).writes ≡ added_count (faults self.old).writes
+            (Self.File.faults file).writes }
         ensures counts { HaveNotFallen (faults self.old) (faults self.new) };
 }

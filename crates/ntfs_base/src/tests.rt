@@ -393,8 +393,8 @@ fn a_line_is_built_from_texts_and_numbers(rt: HostRuntime) {
     assert_eq!(rt; line.as_bytes(), b"a 18446744073709551615 0aff".as_slice());
 }
 
-/// Makes files and appends to them: whether all was done. Where memory is wanting, all is as it was. `tools/refused_memory.py`
-/// has each allocation of it refused in turn.
+/// Makes files and appends to them: whether all was done. Where memory is wanting, all is as it was.
+/// `tools/refused_memory.py` has each allocation of it refused in turn.
 fn growth_is_whole(rt: &impl Abort, host: &HostRuntime) -> Result<bool, Fail> {
     let alloc = host.alloc();
     let mut shelf = MemShelf::new(alloc);

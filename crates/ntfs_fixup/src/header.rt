@@ -2,9 +2,10 @@
 
 ghost use Rattle.std.specs.Prelude.{◌≡◌, ◌+◌, ◌*◌, ◌≤◌, ◌<◌, ◌^◌, length};
 ghost use Rattle.ntfs_base.specs.Bytes.{number_at};
-ghost use Rattle.ntfs_fixup.specs.Fixups.{HasWholeStrides, magic_number, has_magic, array_offset, array_count, least_offset, has_good_array, sequence_number, last_word};
+ghost use Rattle.ntfs_fixup.specs.Fixups.{HasWholeStrides, magic_number, has_magic, array_offset, array_count, with_array_offset, with_array_count, least_offset, has_good_array, sequence_number, last_word};
 
 use byteorder::{ByteOrder, LittleEndian};
+use ntfs_base::in_place::overwrite_u16;
 
 /// What a block begins with.
 #[derive(Clone, Copy, Debug, PartialEq, Eq)]
@@ -56,24 +57,42 @@ pub(crate) fn has_magic(block: &[u8], magic: Magic) -> bool
     LittleEndian::read_u32(block) == magic.number()
 }
 
-// Where the update sequence array begins.
+/// Where the update sequence array begins: `usa_ofs`.
 #[tactic(auto, unfolding(crate::specs::Fixups::array_offset))]
-pub(crate) fn array_offset(block: &[u8]) -> usize
-    requires { HasWholeStrides block.now }
+pub fn array_offset(block: &[u8]) -> usize
+    requires { 6 ≤ length block.now }
     ensures value { result ≡ array_offset block.now }
     ensures fits { result < 2 ^ 16 }
 {
     usize::from(word_at(block, 0x04))
 }
 
-// How many words the update sequence array has.
+/// How many words the update sequence array has: `usa_count`.
 #[tactic(auto, unfolding(crate::specs::Fixups::array_count))]
-fn array_count(block: &[u8]) -> usize
-    requires { HasWholeStrides block.now }
+pub fn array_count(block: &[u8]) -> usize
+    requires { 8 ≤ length block.now }
     ensures value { result ≡ array_count block.now }
     ensures fits { result < 2 ^ 16 }
 {
     usize::from(word_at(block, 0x06))
+}
+
+/// Sets where the update sequence array begins.
+#[tactic(auto, unfolding(crate::specs::Fixups::with_array_offset))]
+pub fn set_array_offset(block: &mut [u8], offset: u16)
+    requires { 6 ≤ length block.old }
+    ensures { block.new ≡ with_array_offset offset block.old }
+{
+    overwrite_u16(block, 0x04, offset);
+}
+
+/// Sets how many words the update sequence array has.
+#[tactic(auto, unfolding(crate::specs::Fixups::with_array_count))]
+pub fn set_array_count(block: &mut [u8], count: u16)
+    requires { 8 ≤ length block.old }
+    ensures { block.new ≡ with_array_count count block.old }
+{
+    overwrite_u16(block, 0x06, count);
 }
 
 // Whether the update sequence array is good for the magic.

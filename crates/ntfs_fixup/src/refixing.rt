@@ -2,7 +2,7 @@
 
 ghost use Rattle.std.specs.Prelude.{◌≡◌, IsTrue, ℕ, ◌+◌, ◌*◌, ◌/◌, ◌%◌, ◌<◌, ◌≤◌, length, slice_index, slice_set};
 ghost use Rattle.std.specs.Int.{byte_at};
-ghost use Rattle.ntfs_fixup.specs.Fixups.{HasWholeStrides, HasRoom, array_offset, stride_count, has_good_array, sequence_number, AllAgree, HasFront, IsOutsideArray, next_number, refixed_byte, refixed};
+ghost use Rattle.ntfs_fixup.specs.Fixups.{HasWholeStrides, HasRoom, array_offset, stride_count, has_good_array, sequence_number, AllAgree, HasFront, KeepsFront, IsOutsideArray, next_number, refix_byte, refix_of};
 ghost use Rattle.ntfs_fixup.specs.declared.header.Magic.{Magic};
 
 use crate::header::{Magic, array_offset, sequence_number};
@@ -65,14 +65,15 @@ fn mark(block: &mut [u8], number: u16)
 pub fn refix(block: &mut [u8])
     requires block { HasWholeStrides block.old }
     requires array { IsTrue (has_good_array Magic.Indx block.old) }
-    ensures exact { block.new ≡ refixed block.old }
-    ensures bytes { (p : ℕ) → p < length block.old → slice_index block.new p ≡ refixed_byte block.old p }
+    ensures exact { block.new ≡ refix_of block.old }
+    ensures bytes { (p : ℕ) → p < length block.old → slice_index block.new p ≡ refix_byte block.old p }
     ensures number { sequence_number block.new ≡ next_number (sequence_number block.old) }
     ensures agree { AllAgree block.new }
 
-    // What is neither a stride's end nor in the array stays, and so do the magic and the array's place.
+    // What is neither a stride's end nor in the array stays, and so do all bytes before the array.
     ensures others { (p : ℕ) → p % 512 < 510 → IsOutsideArray block.old p →
         slice_index block.new p ≡ slice_index block.old p }
+    ensures keeps { KeepsFront block.old block.new }
     ensures front { (magic : Magic) → HasFront magic block.old → HasFront magic block.new }
 {
     let offset = array_offset(block);

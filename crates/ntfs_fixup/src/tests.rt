@@ -27,7 +27,8 @@ fn begin(block: &mut [u8], magic: Magic, offset: u16, count: u16)
     put(block, 6, count);
 }
 
-// A block of two strides with these ends, whose array at `offset` has the number 5 and the saved words 0xBBAA and 0xDDCC.
+// A block of two strides with these ends, whose array at `offset` has the number 5 and the saved words 0xBBAA and
+// 0xDDCC.
 fn two_strides(magic: Magic, offset: u16, count: u16, ends: [u16; 2]) -> [u8; 1024]
     requires { offset < 1000 }
 {

@@ -8,5 +8,5 @@ abbrev pub EndsLine : List ℕ → Type 0
 EndsLine bytes = slice_get bytes (length bytes - 1) ≡ Some 10
 
 -- what a writer holds, where that is known, and then what waits
-abbrev pub gathered : Option (List ℕ) → ArrayVec ℕ → Option (List ℕ)
-gathered known waiting = append_known known waiting.items
+abbrev pub line_so_far : Option (List ℕ) → ArrayVec ℕ → Option (List ℕ)
+line_so_far known waiting = append_known known waiting.items

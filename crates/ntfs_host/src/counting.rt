@@ -9,7 +9,7 @@ use std::io;
 use std::io::ErrorKind;
 
 /// The answer of a call of the system, which counts one failure more where it failed.
-pub(crate) fn counted<T>(failures: &mut u64, answer: io::Result<T>) -> Result<T, Failed>
+pub(crate) fn count_fault<T>(failures: &mut u64, answer: io::Result<T>) -> Result<T, Failed>
     ensures value { IfOk result (λ value. answer ≡ Ok value) }
     ensures failed { OnErr result (IsErr answer) }
     ensures count { failures.new ≡ count_after failures.old result }
@@ -24,7 +24,7 @@ pub(crate) fn counted<T>(failures: &mut u64, answer: io::Result<T>) -> Result<T,
 }
 
 /// Why a file wasn't handed out: there is none, memory was wanting, or else the call failed, which counts as a read.
-pub(crate) fn refused(faults: &mut Faults, error: &io::Error) -> ShelfFault
+pub(crate) fn refusal_of(faults: &mut Faults, error: &io::Error) -> ShelfFault
     ensures fault { result ≡ refusal_of (error_kind error.now) }
     ensures count { faults.new ≡ faults_after result faults.old }
 {

@@ -2,7 +2,7 @@ ghost use Rattle.std.specs.Prelude.{◌≡◌, ◌≤◌, ◌<◌, ◌+◌, ◌�
 ghost use Rattle.ntfs_host.specs.Disk.{MayWrite, MaySetLength};
 
 use crate::access::Access;
-use crate::counting::counted;
+use crate::counting::count_fault;
 use crate::limits::size_limit;
 use ntfs_base::{Failed, Faults, HostFile, Image, PutFault};
 use std::fs::{File, Files};
@@ -171,7 +171,7 @@ impl Image for DiskFile {
             ≡ record self.old.faults { reads = count_after self.old.faults.reads result } }
         ensures access { self.new.access ≡ self.old.access }
     {
-        counted(&mut self.faults.reads, self.file.read_exact_at(into, at))
+        count_fault(&mut self.faults.reads, self.file.read_exact_at(into, at))
     }
 
     fn write_at(&mut self, at: u64, bytes: &[u8]) -> Result<(), Failed>
@@ -184,7 +184,7 @@ impl Image for DiskFile {
         ensures access { self.new.access ≡ self.old.access }
     {
         let written = self.write_whole(at, bytes);
-        counted(&mut self.faults.writes, written)
+        count_fault(&mut self.faults.writes, written)
     }
 
     fn sync(&mut self) -> Result<(), Failed>
@@ -193,7 +193,7 @@ impl Image for DiskFile {
             ≡ record self.old.faults { writes = count_after self.old.faults.writes result } }
         ensures access { self.new.access ≡ self.old.access }
     {
-        counted(&mut self.faults.writes, self.file.sync_data())
+        count_fault(&mut self.faults.writes, self.file.sync_data())
     }
 }
 
@@ -214,7 +214,7 @@ impl HostFile for DiskFile {
         ensures access { self.new.access ≡ self.old.access }
     {
         let answer = self.change_length(len);
-        match counted(&mut self.faults.writes, answer) {
+        match count_fault(&mut self.faults.writes, answer) {
             Ok(()) => {
                 self.size = len;
                 Ok(())
@@ -234,7 +234,7 @@ impl HostFile for DiskFile {
     {
         let (end, answer) = self.write_behind(bytes);
         self.size = end;
-        match counted(&mut self.faults.writes, answer) {
+        match count_fault(&mut self.faults.writes, answer) {
             Ok(()) => Ok(()),
             Err(Failed) => Err(PutFault::Failed),
         }

@@ -1,7 +1,7 @@
 ghost use Rattle.std.specs.Prelude.{◌≡◌, IfOk};
 
 use crate::access::Access;
-use crate::counting::{create_refused, refused};
+use crate::counting::{create_refused, refusal_of};
 use crate::disk_file::{DiskFile, Extent, extent_of};
 use ntfs_base::{Faults, Shelf, ShelfFault, one_more, remove_name};
 use std::alloc::Global;
@@ -134,7 +134,7 @@ impl<R: Files<File = File>> Shelf for DiskShelf<R> {
                 self.attached.insert(0, text).unwrap();
                 Ok(DiskFile::new(bears, file, access, extent))
             }
-            Err(error) => Err(refused(&mut self.faults, &error)),
+            Err(error) => Err(refusal_of(&mut self.faults, &error)),
         }
     }
 

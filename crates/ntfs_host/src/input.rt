@@ -1,4 +1,4 @@
-use crate::counting::counted;
+use crate::counting::count_fault;
 use ntfs_base::{Failed, Source};
 use std::io;
 use std::io::{ErrorKind, Read, Stdin};
@@ -42,7 +42,7 @@ impl<R: Read> Source for StdInput<R> {
         ensures keeps { OnErr result (Keeps (R.remaining self.old.reader) (R.remaining self.new.reader)) }
         ensures counted { self.new.faults ≡ count_after self.old.faults result }
     {
-        counted(&mut self.faults, read_once(&mut self.reader, into))
+        count_fault(&mut self.faults, read_once(&mut self.reader, into))
     }
 }
 

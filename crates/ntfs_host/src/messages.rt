@@ -1,8 +1,8 @@
 ghost use Rattle.std.specs.Prelude.{◌≡◌, ◌↔◌, ◌≤◌, ◌+◌, true, [], length, IsTrue, OnOk};
 ghost use Rattle.std.specs.Io.KnownBytes.{Appends};
-ghost use Rattle.ntfs_host.specs.Waiting.{EndsLine, gathered};
+ghost use Rattle.ntfs_host.specs.Waiting.{EndsLine, line_so_far};
 
-use crate::counting::counted;
+use crate::counting::count_fault;
 use arrayvec::ArrayVec;
 use ntfs_base::{Failed, PutFault, Sink, SinkFaults};
 use std::io;
@@ -63,8 +63,8 @@ fn gather<W: Write>(
     waiting: &mut ArrayVec<u8, ROOM>,
     bytes: &[u8],
 ) -> io::Result<()>
-    ensures appends { OnOk result (Appends (gathered (W.contents writer.old) waiting.old)
-        (gathered (W.contents writer.new) waiting.new) bytes.now) }
+    ensures appends { OnOk result (Appends (line_so_far (W.contents writer.old) waiting.old)
+        (line_so_far (W.contents writer.new) waiting.new) bytes.now) }
     ensures gathers { length waiting.old.items + length bytes.now ≤ ROOM → (EndsLine bytes.now → ⊥)
         → writer.new ≡ writer.old }
     ensures lines { EndsLine bytes.now → waiting.new.items ≡ [] }
@@ -87,7 +87,7 @@ impl<W: Write> Sink for StdMessages<W> {
     ghost use Rattle.ntfs_base.specs.Calls.{count_after};
     ghost use Rattle.ntfs_base.specs.Sink.{Put};
     ghost use Rattle.ntfs_host.specs.Seen.{seen_output};
-    ghost use Rattle.ntfs_host.specs.Waiting.{EndsLine, gathered};
+    ghost use Rattle.ntfs_host.specs.Waiting.{EndsLine, line_so_far};
 
     ghost seen = { λ _. seen_output };
 
@@ -97,8 +97,8 @@ impl<W: Write> Sink for StdMessages<W> {
 
     fn put(&mut self, bytes: &[u8]) -> Result<(), PutFault>
         ensures put { Put bytes.now seen_output result seen_output }
-        ensures appends { OnOk result (Appends (gathered (W.contents self.old.writer) self.old.waiting)
-            (gathered (W.contents self.new.writer) self.new.waiting) bytes.now) }
+        ensures appends { OnOk result (Appends (line_so_far (W.contents self.old.writer) self.old.waiting)
+            (line_so_far (W.contents self.new.writer) self.new.waiting) bytes.now) }
         ensures gathers { length self.old.waiting.items + length bytes.now ≤ ROOM → (EndsLine bytes.now → ⊥)
             → self.new.writer ≡ self.old.writer }
         ensures lines { EndsLine bytes.now → self.new.waiting.items ≡ [] }
@@ -109,15 +109,15 @@ impl<W: Write> Sink for StdMessages<W> {
     {
         self.is_flushed = false;
         let answer = gather(&mut self.writer, &mut self.waiting, bytes);
-        match counted(&mut self.faults.failures, answer) {
+        match count_fault(&mut self.faults.failures, answer) {
             Ok(()) => Ok(()),
             Err(Failed) => Err(PutFault::Failed),
         }
     }
 
     fn flush(&mut self) -> Result<(), Failed>
-        ensures keeps { OnOk result (Keeps (gathered (W.contents self.old.writer) self.old.waiting)
-            (gathered (W.contents self.new.writer) self.new.waiting)) }
+        ensures keeps { OnOk result (Keeps (line_so_far (W.contents self.old.writer) self.old.waiting)
+            (line_so_far (W.contents self.new.writer) self.new.waiting)) }
         ensures written { self.new.waiting.items ≡ [] }
         ensures flushed { OnOk result (self.new.is_flushed ≡ true) }
         ensures failed { OnErr result (self.new.is_flushed ≡ self.old.is_flushed) }
@@ -128,7 +128,7 @@ impl<W: Write> Sink for StdMessages<W> {
             return Ok(());
         }
         let answer = write_waiting(&mut self.writer, &mut self.waiting);
-        counted(&mut self.faults.failures, answer)?;
+        count_fault(&mut self.faults.failures, answer)?;
         self.is_flushed = true;
         Ok(())
     }

@@ -1,7 +1,7 @@
 ghost use Rattle.std.specs.Prelude.{◌≡◌, true, [], IfOk};
 ghost use Rattle.std.specs.Io.Buffered.{writer_buffer, writer_contents};
 
-use crate::counting::counted;
+use crate::counting::count_fault;
 use ntfs_base::{Failed, PutFault, Sink, SinkFaults};
 use std::alloc::{AllocError, Global};
 use std::io::{BufWriter, Stdout, Write};
@@ -62,7 +62,7 @@ impl<W: Write + Drop> Sink for StdOutput<W> {
             ≡ record self.old.faults { failures = count_after self.old.faults.failures result } }
     {
         self.is_flushed = false;
-        match counted(&mut self.faults.failures, self.writer.write_all(bytes)) {
+        match count_fault(&mut self.faults.failures, self.writer.write_all(bytes)) {
             Ok(()) => Ok(()),
             Err(Failed) => Err(PutFault::Failed),
         }
@@ -79,7 +79,7 @@ impl<W: Write + Drop> Sink for StdOutput<W> {
         if self.is_flushed {
             return Ok(());
         }
-        counted(&mut self.faults.failures, self.writer.flush())?;
+        count_fault(&mut self.faults.failures, self.writer.flush())?;
         self.is_flushed = true;
         Ok(())
     }

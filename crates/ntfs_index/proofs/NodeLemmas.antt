@@ -5,7 +5,7 @@ use Rattle.std.proofs.lemmas.List.{take_rest}
 use Rattle.byteorder.specs.Endian.{little_number}
 use Rattle.ntfs_base.specs.Bytes.{number_at}
 use Rattle.ntfs_base.proofs.BytesLemmas.{little_number-drop}
-use Rattle.ntfs_index.specs.Layout.{entry_length, indexed_file, child_vcn}
+use Rattle.ntfs_index.specs.Layout.{index_entry_length, indexed_file, child_vcn}
 use Rattle.ntfs_index.specs.Node.{Visit, Child, Own, broken_rule, has_right_length, has_right_parts, has_child, child_of, ends_node, key_of, visits, visits_at}
 use Rattle.ntfs_index.specs.Entry.{visits_left}
 
@@ -29,14 +29,14 @@ rule-none true parts four five none = refl
 rule-none false parts four five none = cc
 
 -- an entry that breaks no rule has 16 bytes
-broken_rule-none : (entry : List ℕ) → broken_rule entry ≡ None → 16 ≤ entry_length entry
+broken_rule-none : (entry : List ℕ) → broken_rule entry ≡ None → 16 ≤ index_entry_length entry
 unfolding broken_rule has_right_length
 broken_rule-none entry none =
     let long = rule-none (has_right_length entry) (has_right_parts entry) 4 5 none in
     let parts =
-    and_parts (nat_le 16 (entry_length entry) && (entry_length entry % 8 == 0))
-    (nat_le (entry_length entry) (length entry)) long in
-    leb-true 16 (entry_length entry) (and_parts (nat_le 16 (entry_length entry)) (entry_length entry % 8 == 0)
+    and_parts (nat_le 16 (index_entry_length entry) && (index_entry_length entry % 8 == 0))
+    (nat_le (index_entry_length entry) (length entry)) long in
+    leb-true 16 (index_entry_length entry) (and_parts (nat_le 16 (index_entry_length entry)) (index_entry_length entry % 8 == 0)
     parts.0).0
 
 -- what follows plays a part only where the entry breaks no rule
@@ -51,12 +51,12 @@ unfolding broken_rule has_right_length number_at
 visits-left vcn [] = refl
 visits-left vcn (byte ∷ bytes) =
     let entry : List ℕ = byte ∷ bytes in
-    visits_at-same vcn entry (visits vcn (entry_length entry - 1) bytes)
-    (visits vcn 0 (drop (entry_length entry) entry)) (broken_rule entry)
+    visits_at-same vcn entry (visits vcn (index_entry_length entry - 1) bytes)
+    (visits vcn 0 (drop (index_entry_length entry) entry)) (broken_rule entry)
     (λ none.
     let long = broken_rule-none entry none in
-    let one : suc (entry_length entry - 1) ≡ entry_length entry = omega arith in
-    visits-skip vcn (entry_length entry - 1) bytes ∙ ap (λ n. visits vcn 0 (drop n entry)) one)
+    let one : suc (index_entry_length entry - 1) ≡ index_entry_length entry = omega arith in
+    visits-skip vcn (index_entry_length entry - 1) bytes ∙ ap (λ n. visits vcn 0 (drop n entry)) one)
 
 module _ (vcn : ℕ) (entry : List ℕ) (whole : broken_rule entry ≡ None) where
   pub step_child : has_child entry ≡ true
@@ -75,11 +75,11 @@ module _ (vcn : ℕ) (entry : List ℕ) (whole : broken_rule entry ≡ None) whe
         reference = indexed_file entry;
         key =
             key_of entry;
-      }) ∷ visits_left vcn false (drop (entry_length entry) entry)
+      }) ∷ visits_left vcn false (drop (index_entry_length entry) entry)
   unfolding child_of
-  step_own true childless goes_on = rw (whole, goes_on, visits-left vcn (drop (entry_length entry) entry)) refl
+  step_own true childless goes_on = rw (whole, goes_on, visits-left vcn (drop (index_entry_length entry) entry)) refl
   step_own false childless goes_on =
-      rw (whole, childless refl, goes_on, visits-left vcn (drop (entry_length entry) entry)) refl
+      rw (whole, childless refl, goes_on, visits-left vcn (drop (index_entry_length entry) entry)) refl
 
 -- what a walk does at an entry
 pub ruleset steps = (step_child, step_end, step_own)

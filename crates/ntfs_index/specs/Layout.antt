@@ -51,8 +51,8 @@ abbrev pub indexed_file : List ℕ → ℕ
 indexed_file entry = number_at 8 0x00 entry
 
 -- length, 2 bytes at 0x08, in bytes: of the whole entry
-abbrev pub entry_length : List ℕ → ℕ
-entry_length entry = number_at 2 0x08 entry
+abbrev pub index_entry_length : List ℕ → ℕ
+index_entry_length entry = number_at 2 0x08 entry
 
 -- key_length, 2 bytes at 0x0A, in bytes
 abbrev pub key_length : List ℕ → ℕ
@@ -68,4 +68,4 @@ file_name_length entry = number_at 1 0x50 entry
 
 -- the child's VCN, the last 8 bytes of an entry that has a child, in units of `Blocks.vcn_unit`
 abbrev pub child_vcn : List ℕ → ℕ
-child_vcn entry = number_at 8 (entry_length entry - 8) entry
+child_vcn entry = number_at 8 (index_entry_length entry - 8) entry

@@ -3,10 +3,10 @@
 -- words are ours).
 use Rattle.std.specs.Prelude.{◌+◌, ◌-◌, ◌*◌, ◌%◌, ◌==◌, ◌&&◌, ℕ, zero, suc, Bool, not, List, [], ◌∷◌, ◌++◌, length, take, drop, Option, Some, None, Result, Ok, Err, nat_le, if◌then◌else◌, bit_and}
 use Rattle.ntfs_base.specs.Bytes.{piece_at}
-use Rattle.ntfs_fixup.specs.Fixups.{unfixed}
+use Rattle.ntfs_fixup.specs.Fixups.{unfix_of}
 use Rattle.ntfs_fixup.specs.declared.header.Magic.TheVariants.{Indx}
 use Rattle.ntfs_fixup.specs.declared.unfixing.FixFault.{FixFault}
-use Rattle.ntfs_index.specs.Layout.{root_type, collation_rule, index_block_size, root_header, index_block_vcn, block_header, entries_offset, index_length, indexed_file, entry_length, key_length, entry_flags, file_name_length, child_vcn}
+use Rattle.ntfs_index.specs.Layout.{root_type, collation_rule, index_block_size, root_header, index_block_vcn, block_header, entries_offset, index_length, indexed_file, index_entry_length, key_length, entry_flags, file_name_length, child_vcn}
 use Rattle.ntfs_index.specs.declared.fault.IndexFault.{IndexFault}
 use Rattle.ntfs_index.specs.declared.fault.IndexFault.TheVariants.{BadNode}
 
@@ -46,18 +46,19 @@ key_of entry = piece_at 0x10 (key_length entry) entry
 -- rule 4: the length is at least 16, a multiple of 8, and within the bytes in use
 unfoldable pub has_right_length : List ℕ → Bool
 has_right_length entry =
-    nat_le 16 (entry_length entry) && (entry_length entry % 8 == 0) && nat_le (entry_length entry) (length entry)
+    nat_le 16 (index_entry_length entry) && (index_entry_length entry % 8 == 0)
+    && nat_le (index_entry_length entry) (length entry)
 
 -- rule 5 of an entry with a key: the fields, the key and the child's VCN are within the entry, and a $FILE_NAME with
 -- its name within the key
 unfoldable pub has_right_key : List ℕ → Bool
 has_right_key entry =
-    nat_le (0x10 + key_length entry + child_length entry) (entry_length entry)
+    nat_le (0x10 + key_length entry + child_length entry) (index_entry_length entry)
     && nat_le (0x42 + 2 * file_name_length entry) (key_length entry)
 
 -- rule 5 of an entry that ends the node: the fields and the child's VCN are within the entry
 unfoldable pub has_right_child : List ℕ → Bool
-has_right_child entry = nat_le (0x10 + child_length entry) (entry_length entry)
+has_right_child entry = nat_le (0x10 + child_length entry) (index_entry_length entry)
 
 abbrev pub has_right_parts : List ℕ → Bool
 has_right_parts entry = if ends_node entry then has_right_child entry else has_right_key entry
@@ -93,7 +94,7 @@ abbrev pub visits : ℕ → ℕ → List ℕ → List Visit
 visits vcn skip [] = Damage (BadNode vcn 4) ∷ []
 visits vcn (suc skip) (byte ∷ bytes) = visits vcn skip bytes
 visits vcn zero (byte ∷ bytes) =
-    visits_at vcn (byte ∷ bytes) (visits vcn (entry_length (byte ∷ bytes) - 1) bytes) (broken_rule (byte ∷ bytes))
+    visits_at vcn (byte ∷ bytes) (visits vcn (index_entry_length (byte ∷ bytes) - 1) bytes) (broken_rule (byte ∷ bytes))
 
 -- ---- the entries in use of a root and of a block: rules 1, 2, 3
 
@@ -136,7 +137,7 @@ unfixed_node vcn (Err fault) = Err (BadNode vcn 1)
 
 -- of a block as it stands in the allocation, where it is there: rule 7, then the others
 abbrev pub raw_node : ℕ → Option (List ℕ) → Result (List ℕ) IndexFault
-raw_node vcn (Some raw) = unfixed_node vcn (unfixed Indx raw)
+raw_node vcn (Some raw) = unfixed_node vcn (unfix_of Indx raw)
 raw_node vcn None = Err (BadNode vcn 7)
 
 -- the bytes of the entries of the block of a VCN, or the first rule that it breaks

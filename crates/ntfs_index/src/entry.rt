@@ -6,7 +6,7 @@ ghost use Rattle.ntfs_index.specs.Layout as layout;
 ghost use Rattle.ntfs_index.specs.Node as node;
 
 use crate::layout::{
-    child_vcn, entry_flags, entry_length, file_name_length, indexed_file, key_length,
+    child_vcn, entry_flags, file_name_length, index_entry_length, indexed_file, key_length,
 };
 
 /// An entry that a walk gave; its key is the walk's.
@@ -53,7 +53,7 @@ fn has_right_length(entry: &[u8]) -> bool
     if entry.len() < 16 {
         return false;
     }
-    let length = usize::from(entry_length(entry));
+    let length = usize::from(index_entry_length(entry));
     16 <= length && length % 8 == 0 && length <= entry.len()
 }
 
@@ -63,10 +63,10 @@ fn has_right_key(entry: &[u8]) -> bool
     requires { HasSoundLength entry.now }
     ensures value { result ≡ node.has_right_key entry.now }
     ensures fits { result ≡ true →
-        0x10 + layout.key_length entry.now + node.child_length entry.now ≤ layout.entry_length entry.now }
+        0x10 + layout.key_length entry.now + node.child_length entry.now ≤ layout.index_entry_length entry.now }
 {
     let key = usize::from(key_length(entry));
-    if 0x10 + key + child_length(entry) > usize::from(entry_length(entry)) || key < 0x42 {
+    if 0x10 + key + child_length(entry) > usize::from(index_entry_length(entry)) || key < 0x42 {
         return false;
     }
     0x42 + 2 * usize::from(file_name_length(entry)) <= key
@@ -77,9 +77,9 @@ fn has_right_key(entry: &[u8]) -> bool
 fn has_right_child(entry: &[u8]) -> bool
     requires { HasSoundLength entry.now }
     ensures value { result ≡ node.has_right_child entry.now }
-    ensures fits { result ≡ true → 0x10 + node.child_length entry.now ≤ layout.entry_length entry.now }
+    ensures fits { result ≡ true → 0x10 + node.child_length entry.now ≤ layout.index_entry_length entry.now }
 {
-    0x10 + child_length(entry) <= usize::from(entry_length(entry))
+    0x10 + child_length(entry) <= usize::from(index_entry_length(entry))
 }
 
 /// Rule 5.
@@ -141,7 +141,7 @@ pub(crate) fn step_of(entry: &[u8], entered: bool) -> Step
     }
     Step::Own {
         reference: indexed_file(entry),
-        length: entry_length(entry),
+        length: index_entry_length(entry),
     }
 }
 

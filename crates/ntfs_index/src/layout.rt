@@ -98,9 +98,9 @@ pub(crate) fn indexed_file(entry: &[u8]) -> u64
 }
 
 /// length, in bytes.
-pub(crate) fn entry_length(entry: &[u8]) -> u16
+pub(crate) fn index_entry_length(entry: &[u8]) -> u16
     requires { 0x10 ≤ length entry.now }
-    ensures { result ≡ spec.entry_length entry.now }
+    ensures { result ≡ spec.index_entry_length entry.now }
 {
     u16_at(entry, 0x08)
 }
@@ -133,9 +133,9 @@ pub(crate) fn file_name_length(entry: &[u8]) -> u8
 /// The child's VCN, in the entry's last 8 bytes.
 pub(crate) fn child_vcn(entry: &[u8]) -> u64
     requires fields { 0x10 ≤ length entry.now }
-    requires least { 8 ≤ spec.entry_length entry.now }
-    requires within { spec.entry_length entry.now ≤ length entry.now }
+    requires least { 8 ≤ spec.index_entry_length entry.now }
+    requires within { spec.index_entry_length entry.now ≤ length entry.now }
     ensures { result ≡ spec.child_vcn entry.now }
 {
-    u64_at(entry, usize::from(entry_length(entry)) - 8)
+    u64_at(entry, usize::from(index_entry_length(entry)) - 8)
 }

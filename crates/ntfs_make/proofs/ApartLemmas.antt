@@ -5,7 +5,7 @@ use Rattle.ntfs_make.specs.declared.shape.Shape.{Shape}
 use Rattle.ntfs_make.specs.declared.table.AreaRow.{AreaRow}
 use Rattle.ntfs_make.specs.declared.table.Area.{Area}
 use Rattle.ntfs_make.specs.Shape.{IsShape, shape_of, sectors}
-use Rattle.ntfs_make.specs.Areas.{area_rows, cluster_count, area_from, areas_up, areas_down, areas_of}
+use Rattle.ntfs_make.specs.Areas.{area_rows, area_cluster_count, area_from, areas_up, areas_down, areas_of}
 use Rattle.ntfs_make.specs.Streams.{area_bytes}
 use Rattle.ntfs_base.specs.Writes.{IsApart, IsApartFrom, AreApart}
 use Rattle.ntfs_make.specs.Volume.{area_write, copy_write, shape_writes, volume_writes, LiesInVolume}
@@ -24,25 +24,25 @@ AllSplit (p ∷ ps) = AllAreas (Split p) ps × AllSplit ps
 -- areas that go up begin behind the place before
 up-split : (shape : Shape) (p : Area) (start : ℕ) (ps : List AreaRow) → p.start + p.length ≤ start → AllAreas (Split p) (areas_up shape start ps)
 up-split shape p start [] before = tt
-up-split shape p start (q ∷ qs) before = (inl before, up-split shape p (start + (cluster_count shape q.length + 1)) qs (omega arith))
+up-split shape p start (q ∷ qs) before = (inl before, up-split shape p (start + (area_cluster_count shape q.length + 1)) qs (omega arith))
 
 up-all : (shape : Shape) (start : ℕ) (ps : List AreaRow) → AllSplit (areas_up shape start ps)
 up-all shape start [] = tt
-up-all shape start (q ∷ qs) = (up-split shape (area_from shape start q) (start + (cluster_count shape q.length + 1)) qs (omega arith), up-all shape (start + (cluster_count shape q.length + 1)) qs)
+up-all shape start (q ∷ qs) = (up-split shape (area_from shape start q) (start + (area_cluster_count shape q.length + 1)) qs (omega arith), up-all shape (start + (area_cluster_count shape q.length + 1)) qs)
 
 -- areas that go down end before the place behind
 down-split : (shape : Shape) (p : Area) (bound : ℕ) (ps : List AreaRow) → total shape ps ≤ bound → bound ≤ p.start → AllAreas (Split p) (areas_down shape bound ps)
 down-split shape p bound [] room behind = tt
-down-split shape p bound (q ∷ qs) room behind = (inr (omega arith), down-split shape p (bound - (cluster_count shape q.length + 1)) qs (omega arith) (omega arith))
+down-split shape p bound (q ∷ qs) room behind = (inr (omega arith), down-split shape p (bound - (area_cluster_count shape q.length + 1)) qs (omega arith) (omega arith))
 
 down-all : (shape : Shape) (bound : ℕ) (ps : List AreaRow) → total shape ps ≤ bound → AllSplit (areas_down shape bound ps)
 down-all shape bound [] room = tt
-down-all shape bound (q ∷ qs) room = (down-split shape (area_from shape (bound - (cluster_count shape q.length + 1)) q) (bound - (cluster_count shape q.length + 1)) qs (omega arith) (omega arith), down-all shape (bound - (cluster_count shape q.length + 1)) qs (omega arith))
+down-all shape bound (q ∷ qs) room = (down-split shape (area_from shape (bound - (area_cluster_count shape q.length + 1)) q) (bound - (area_cluster_count shape q.length + 1)) qs (omega arith) (omega arith), down-all shape (bound - (area_cluster_count shape q.length + 1)) qs (omega arith))
 
 -- and begin behind what lies below all of them
 down-above : (shape : Shape) (p : Area) (bound : ℕ) (ps : List AreaRow) → p.start + p.length + total shape ps ≤ bound → AllAreas (Split p) (areas_down shape bound ps)
 down-above shape p bound [] room = tt
-down-above shape p bound (q ∷ qs) room = (inl (omega arith), down-above shape p (bound - (cluster_count shape q.length + 1)) qs (omega arith))
+down-above shape p bound (q ∷ qs) room = (inl (omega arith), down-above shape p (bound - (area_cluster_count shape q.length + 1)) qs (omega arith))
 
 first-then-down : (shape : Shape) (ps : List AreaRow) → total shape ps ≤ shape.clusters + 1 → AllSplit (areas_up shape 0 (take 1 ps) ++ areas_down shape (shape.clusters + 1) (drop 1 ps))
 first-then-down shape [] room = tt

@@ -5,13 +5,14 @@ use Rattle.std.specs.List.{list_all}
 use Rattle.std.proofs.Math.Nat.{mul-le-mul_right, lt-div-mul-add, div-le_of_le-mul, mul-add, mul_comm}
 use Rattle.std.proofs.lemmas.Bool.{leb-true}
 use Rattle.std.proofs.lemmas.Bool.Decides.{nat_tests}
+use Rattle.ntfs_base.specs.Bytes.{clusters_for}
 use Rattle.ntfs_make.specs.declared.shape.Shape.{Shape}
 use Rattle.ntfs_make.specs.declared.table.AreaRow.{AreaRow}
 use Rattle.ntfs_make.specs.declared.table.Area.{Area}
 use Rattle.ntfs_make.specs.declared.table.ClusterCount.{ClusterCount}
 use Rattle.ntfs_make.specs.declared.table.ClusterCount.TheVariants.{ForBytes, ForBitmap, Exactly, OfFile}
-use Rattle.ntfs_make.specs.Shape.{IsShape, clusters_for, bitmap_size, is_cluster_size}
-use Rattle.ntfs_make.specs.Areas.{area_rows, cluster_count, areas_up, areas_down, areas_of, area_at, no_area}
+use Rattle.ntfs_make.specs.Shape.{IsShape, bitmap_size, is_cluster_size}
+use Rattle.ntfs_make.specs.Areas.{area_rows, area_cluster_count, areas_up, areas_down, areas_of, area_at, no_area}
 use Rattle.ntfs_make.specs.Volume.{LiesInVolume}
 use Rattle.ntfs_make.proofs.ShapeLemmas.{bounds, bitmap_size-le, clusters_for-le}
 
@@ -37,22 +38,22 @@ clusters_for-most bytes c m some within =
 -- how many clusters areas take, each with a free one
 abbrev pub total : Shape → List AreaRow → ℕ
 total shape [] = 0
-total shape (row ∷ rows) = (cluster_count shape row.length + 1) + total shape rows
+total shape (row ∷ rows) = (area_cluster_count shape row.length + 1) + total shape rows
 
-length-file : (shape : Shape) (number : ℕ) → cluster_count shape (OfFile number) ≤ 4
-unfolding cluster_count
+length-file : (shape : Shape) (number : ℕ) → area_cluster_count shape (OfFile number) ≤ 4
+unfolding area_cluster_count
 length-file shape number = omega arith
 
-length-clusters : (shape : Shape) (count : ℕ) → cluster_count shape (Exactly count) ≡ count
-unfolding cluster_count
+length-clusters : (shape : Shape) (count : ℕ) → area_cluster_count shape (Exactly count) ≡ count
+unfolding area_cluster_count
 length-clusters shape count = refl
 
-length-bytes : (shape : Shape) (bytes m : ℕ) → 1 ≤ m → m ≤ shape.cluster → cluster_count shape (ForBytes bytes) ≤ bytes / m + 2
-unfolding cluster_count
+length-bytes : (shape : Shape) (bytes m : ℕ) → 1 ≤ m → m ≤ shape.cluster → area_cluster_count shape (ForBytes bytes) ≤ bytes / m + 2
+unfolding area_cluster_count
 length-bytes shape bytes m some within = clusters_for-most bytes shape.cluster m some within
 
-length-bits : (shape : Shape) (m : ℕ) → 1 ≤ m → m ≤ shape.cluster → cluster_count shape ForBitmap ≤ bitmap_size shape.clusters / m + 2
-unfolding cluster_count
+length-bits : (shape : Shape) (m : ℕ) → 1 ≤ m → m ≤ shape.cluster → area_cluster_count shape ForBitmap ≤ bitmap_size shape.clusters / m + 2
+unfolding area_cluster_count
 length-bits shape m some within = clusters_for-most (bitmap_size shape.clusters) shape.cluster m some within
 
 total-files : (shape : Shape) → total shape (drop 13 area_rows) ≤ 80
@@ -66,8 +67,8 @@ total-files shape =
 
 -- the areas but the files, by what is known of their lengths
 total-areas : (shape : Shape) → total shape area_rows ≡
-    cluster_count shape (ForBytes 8192) + 2 * cluster_count shape (ForBytes 32768) + 2 * cluster_count shape (ForBytes 4096) + cluster_count shape (ForBytes 65536)
-    + cluster_count shape ForBitmap + cluster_count shape (ForBytes 131072) + 22 + total shape (drop 13 area_rows)
+    area_cluster_count shape (ForBytes 8192) + 2 * area_cluster_count shape (ForBytes 32768) + 2 * area_cluster_count shape (ForBytes 4096) + area_cluster_count shape (ForBytes 65536)
+    + area_cluster_count shape ForBitmap + area_cluster_count shape (ForBytes 131072) + 22 + total shape (drop 13 area_rows)
 unfolding area_rows
 total-areas shape =
     let c1 = length-clusters shape 1 in
@@ -131,8 +132,8 @@ is_small ForBitmap = true
 is_small (Exactly count) = nat_le count 65536
 is_small (OfFile number) = true
 
-small-count : (shape : Shape) (count : ClusterCount) → IsShape shape → is_small count ≡ true → cluster_count shape count ≤ 2 ^ 33
-unfolding cluster_count
+small-count : (shape : Shape) (count : ClusterCount) → IsShape shape → is_small count ≡ true → area_cluster_count shape count ≤ 2 ^ 33
+unfolding area_cluster_count
 small-count shape (ForBytes bytes) is small =
     let b = bounds shape is in
     let most = clusters_for-le bytes shape.cluster in
@@ -178,7 +179,7 @@ up-lies shape start (row ∷ rows) is small room =
     let both = and-both (has_small_first row) (list_all has_small_first rows) small in
     let first = small-count shape row.first_vcn is both.0 in (
       record { small = omega arith; first = omega arith; clusters = omega arith },
-      up-lies shape (start + (cluster_count shape row.length + 1)) rows is both.1 (omega arith),
+      up-lies shape (start + (area_cluster_count shape row.length + 1)) rows is both.1 (omega arith),
     )
 
 down-lies : (shape : Shape) (bound : ℕ) (rows : List AreaRow) → IsShape shape → list_all has_small_first rows ≡ true → total shape rows ≤ bound → bound ≤ shape.clusters + 1 → AllAreas (LiesInVolume shape) (areas_down shape bound rows)
@@ -188,7 +189,7 @@ down-lies shape bound (row ∷ rows) is small room most =
     let both = and-both (has_small_first row) (list_all has_small_first rows) small in
     let first = small-count shape row.first_vcn is both.0 in (
       record { small = omega arith; first = omega arith; clusters = omega arith },
-      down-lies shape (bound - (cluster_count shape row.length + 1)) rows is both.1 (omega arith) (omega arith),
+      down-lies shape (bound - (area_cluster_count shape row.length + 1)) rows is both.1 (omega arith) (omega arith),
     )
 
 areas-append : (P : Area → Type 0) (front rest : List Area) → AllAreas P front → AllAreas P rest → AllAreas P (front ++ rest)

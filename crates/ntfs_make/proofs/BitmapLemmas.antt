@@ -4,11 +4,11 @@ use Rattle.std.proofs.lemmas.Bool.Decides.{nat_tests}
 use Rattle.ntfs_make.specs.declared.shape.Shape.{Shape}
 use Rattle.ntfs_make.specs.Areas.{areas_of}
 use Rattle.ntfs_make.specs.Shape.{bad_cluster}
-use Rattle.ntfs_make.specs.Streams.{has_area, bit_of, byte_of}
+use Rattle.ntfs_make.specs.Streams.{has_area, bitmap_bit, byte_of}
 
 -- a cluster that is free
-free-bit : (shape : Shape) (cluster : ℕ) → cluster < shape.clusters → cluster ≢ bad_cluster shape.clusters → has_area (areas_of shape) cluster ≡ false → bit_of shape cluster ≡ 0
-unfolding bit_of
+free-bit : (shape : Shape) (cluster : ℕ) → cluster < shape.clusters → cluster ≢ bad_cluster shape.clusters → has_area (areas_of shape) cluster ≡ false → bitmap_bit shape cluster ≡ 0
+unfolding bitmap_bit
 free-bit shape cluster below other free =
     let inside : nat_le shape.clusters cluster ≡ false = grind (arith, nat_tests) in
     let sound : cluster == bad_cluster shape.clusters ≡ false = grind (arith, nat_tests) in
@@ -20,7 +20,7 @@ unfolding byte_of
 free-byte shape first below other free =
     let here : first + 0 ≡ first = omega arith in
     let at = λ (i : ℕ) (h : i < 8). free-bit shape (first + i) (omega arith) (other i h) (free i h) in
-    let b0 = ap (bit_of shape) (sym here) ∙ at 0 (omega arith) in
+    let b0 = ap (bitmap_bit shape) (sym here) ∙ at 0 (omega arith) in
     let b1 = at 1 (omega arith) in
     let b2 = at 2 (omega arith) in
     let b3 = at 3 (omega arith) in

@@ -9,7 +9,7 @@ use Rattle.ntfs_make.specs.declared.shape.Shape.{Shape}
 use Rattle.ntfs_make.specs.declared.table.Area.{Area}
 use Rattle.ntfs_make.specs.Shape.{IsShape, shape_of}
 use Rattle.ntfs_make.specs.Areas.{areas_of}
-use Rattle.ntfs_make.specs.Streams.{area_bytes, stream_bytes}
+use Rattle.ntfs_make.specs.Streams.{area_bytes, content_bytes}
 use Rattle.ntfs_make.specs.Volume.{area_write, copy_write, shape_writes, volume_writes, volume_bytes_of, LiesInVolume}
 use Rattle.ntfs_make.proofs.ShapeLemmas.{inside, sectors-end}
 use Rattle.ntfs_make.proofs.StreamLemmas.{length-boot}
@@ -18,7 +18,7 @@ use Rattle.ntfs_make.proofs.AreaLemmas.{AllAreas, all-lie}
 -- what stands in an area fits its clusters
 pub area-fits : (shape : Shape) (area : Area) → length (area_bytes shape area) ≤ area.length * shape.cluster
 unfolding area_bytes
-area-fits shape area = length-piece-le (area.first_vcn * shape.cluster) (area.length * shape.cluster) (stream_bytes shape area.content)
+area-fits shape area = length-piece-le (area.first_vcn * shape.cluster) (area.length * shape.cluster) (content_bytes shape area.content)
 
 inside-areas : (shape : Shape) (areas : List Area) → AllAreas (LiesInVolume shape) areas → AllInside ((shape.clusters + 1) * shape.cluster) (map (area_write shape) areas)
 inside-areas shape [] lie = tt

@@ -16,3 +16,4 @@ pub mod FrontLemmas
 pub mod ReadLemmas
 pub mod StreamReadLemmas
 pub mod NameOrderLemmas
+pub mod ReadBackLemmas

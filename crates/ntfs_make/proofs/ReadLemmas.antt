@@ -10,8 +10,8 @@ use Rattle.ntfs_make.specs.declared.shape.Shape.{Shape}
 use Rattle.ntfs_make.specs.declared.table.Area.{Area}
 use Rattle.ntfs_make.specs.Shape.{IsShape, shape_of}
 use Rattle.ntfs_make.specs.declared.table.AreaRow.{AreaRow}
-use Rattle.ntfs_make.specs.Areas.{area_rows, areas_up, areas_down, areas_of, area_at, no_area, cluster_count}
-use Rattle.ntfs_make.specs.Streams.{area_bytes, stream_bytes}
+use Rattle.ntfs_make.specs.Areas.{area_rows, areas_up, areas_down, areas_of, area_at, no_area, area_cluster_count}
+use Rattle.ntfs_make.specs.Streams.{area_bytes, content_bytes}
 use Rattle.ntfs_make.specs.Volume.{area_write, copy_write, shape_writes, volume_writes, LiesInVolume}
 use Rattle.ntfs_make.specs.Laws.{HoldsVcns}
 use Rattle.ntfs_make.proofs.AreaLemmas.{AllAreas, all-lie, area-in}
@@ -77,11 +77,11 @@ area-byte shape (area ∷ areas) (suc i) d p is lie split within from ends =
 
 length-up : (shape : Shape) (start : ℕ) (rows : List AreaRow) → length (areas_up shape start rows) ≡ length rows
 length-up shape start [] = refl
-length-up shape start (row ∷ rows) = ap suc (length-up shape (start + (cluster_count shape row.length + 1)) rows)
+length-up shape start (row ∷ rows) = ap suc (length-up shape (start + (area_cluster_count shape row.length + 1)) rows)
 
 length-down : (shape : Shape) (bound : ℕ) (rows : List AreaRow) → length (areas_down shape bound rows) ≡ length rows
 length-down shape bound [] = refl
-length-down shape bound (row ∷ rows) = ap suc (length-down shape (bound - (cluster_count shape row.length + 1)) rows)
+length-down shape bound (row ∷ rows) = ap suc (length-down shape (bound - (area_cluster_count shape row.length + 1)) rows)
 
 length-either : (shape : Shape) (t : Bool) → length (cond t (areas_up shape 0 area_rows) (areas_up shape 0 (take 1 area_rows) ++ areas_down shape (shape.clusters + 1) (drop 1 area_rows))) ≡ 29
 unfolding area_rows
@@ -120,7 +120,7 @@ holds-area shape i is few = λ (k : ℕ) (within : k < (get_or (areas_of shape) 
     volume-at shape.seed shape.clusters c (area.start * c + k) short
     ∙ area-byte shape (areas_of shape) i no_area (area.start * c + k) is (all-lie shape is) (all-split shape is) there (omega arith) (omega arith)
     ∙ ap (slice_index (area_bytes shape area)) left
-    ∙ piece-index (area.first_vcn * c) (area.length * c) k (stream_bytes shape area.content) within
+    ∙ piece-index (area.first_vcn * c) (area.length * c) k (content_bytes shape area.content) within
 
 pub lies-number : (shape : Shape) (number : ℕ) → IsShape shape → number < 29 → LiesInVolume shape (area_at shape number)
 lies-number shape number is few =

@@ -2,8 +2,9 @@
 use Rattle.std.proofs.Common.{◌≡◌, ◌≤◌, ◌<◌, ◌+◌, ◌-◌, ◌*◌, ◌/◌, ◌%◌, ◌^◌, ◌==◌, ℕ, Bool, true, false, IsTrue, cond, sym, ap, ◌∙◌, arith}
 use Rattle.std.proofs.Math.Nat.{mul-le-mul_left, mul-le-mul_right, div-le_self, mul_comm, mul_assoc, add-mul}
 use Rattle.std.proofs.lemmas.Bool.Decides.{nat_tests}
+use Rattle.ntfs_base.specs.Bytes.{clusters_for}
 use Rattle.ntfs_make.specs.declared.shape.Shape.{Shape}
-use Rattle.ntfs_make.specs.Shape.{IsShape, is_cluster_size, clusters_for, bitmap_size, bad_cluster, sectors}
+use Rattle.ntfs_make.specs.Shape.{IsShape, is_cluster_size, bitmap_size, bad_cluster, sectors}
 
 pub record SizeBounds (c : ℕ) : Type 0 where
   pub least : 512 ≤ c

@@ -4,7 +4,7 @@ use Rattle.std.specs.Prelude.{flat_map}
 use Rattle.std.specs.List.{range_with_len}
 use Rattle.std.proofs.lemmas.List.{length-replicate}
 use Rattle.std.proofs.lemmas.List.FromFn.{length-map-range_with_len}
-use Rattle.ntfs_fixup.specs.Fixups.{refixed, refixed_byte}
+use Rattle.ntfs_fixup.specs.Fixups.{refix_of, refix_byte}
 use Rattle.ntfs_make.specs.declared.shape.Shape.{Shape}
 use Rattle.ntfs_make.specs.Fields.{zero_bytes, with_length, fields_bytes}
 use Rattle.ntfs_make.specs.Table.{RowValue}
@@ -15,17 +15,17 @@ use Rattle.ntfs_make.specs.Streams.{ff_bytes, counting_bytes, bitmap_bytes, byte
 use Rattle.ntfs_make.specs.Boot.{boot_sector, boot_front}
 use Rattle.ntfs_make.proofs.BlockLemmas.{length-sized}
 
-length-refixed : (block : List ℕ) → length (refixed block) ≡ length block
-unfolding refixed
-length-refixed block = length-map-range_with_len (refixed_byte block) 0 (length block)
+length-refix_of : (block : List ℕ) → length (refix_of block) ≡ length block
+unfolding refix_of
+length-refix_of block = length-map-range_with_len (refix_byte block) 0 (length block)
 
 pub length-zeros : (n : ℕ) → length (zero_bytes n) ≡ n
 unfolding zero_bytes
 length-zeros n = length-replicate n 0
 
-record-of : (t : Bool) (text : List ℕ) → length (cond t (zero_bytes 1024) (refixed (with_length 1024 text))) ≡ 1024
+record-of : (t : Bool) (text : List ℕ) → length (cond t (zero_bytes 1024) (refix_of (with_length 1024 text))) ≡ 1024
 record-of true text = length-zeros 1024
-record-of false text = length-refixed (with_length 1024 text) ∙ length-sized 1024 text
+record-of false text = length-refix_of (with_length 1024 text) ∙ length-sized 1024 text
 
 pub length-record : (shape : Shape) (row : RowValue) → length (record_of_row shape row) ≡ 1024
 unfolding record_of_row
@@ -45,7 +45,7 @@ length-boot shape = refl
 
 pub length-index : length index_block ≡ 4096
 unfolding index_block
-length-index = length-refixed (with_length 4096 index_text) ∙ length-sized 4096 index_text
+length-index = length-refix_of (with_length 4096 index_text) ∙ length-sized 4096 index_text
 
 pub length-ff : (n : ℕ) → length (ff_bytes n) ≡ n
 unfolding ff_bytes

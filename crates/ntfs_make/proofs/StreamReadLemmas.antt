@@ -17,7 +17,7 @@ use Rattle.ntfs_make.specs.declared.table.Content.TheVariants.{Boot, Mft, Mirror
 use Rattle.ntfs_make.specs.declared.table.ClusterCount.{ClusterCount}
 use Rattle.ntfs_make.specs.declared.table.ClusterCount.TheVariants.{ForBytes, ForBitmap, Exactly, OfFile}
 use Rattle.ntfs_make.specs.Shape.{IsShape, shape_of, bitmap_size}
-use Rattle.ntfs_make.specs.Areas.{area_rows, area_row, area_row_from, file_area_row, area_from, areas_up, areas_down, areas_of, area_at, no_area, cluster_count}
+use Rattle.ntfs_make.specs.Areas.{area_rows, area_row, area_row_from, file_area_row, area_from, areas_up, areas_down, areas_of, area_at, no_area, area_cluster_count}
 use Rattle.ntfs_make.specs.Fields.{zero_bytes}
 use Rattle.ntfs_make.specs.Table.{RowValue}
 use Rattle.ntfs_make.specs.Rows.{rows, system_rows}
@@ -25,9 +25,9 @@ use Rattle.ntfs_make.specs.Index.{index_block}
 use Rattle.ntfs_make.specs.UpCase.{up_case_bytes}
 use Rattle.ntfs_make.specs.Boot.{boot_sector}
 use Rattle.ntfs_make.specs.Records.{record_of_row, records_bytes, rows_between}
-use Rattle.ntfs_make.specs.Streams.{stream_bytes, ff_bytes}
+use Rattle.ntfs_make.specs.Streams.{content_bytes, ff_bytes}
 use Rattle.ntfs_make.specs.Volume.{volume_bytes_of, volume_writes, LiesInVolume}
-use Rattle.ntfs_make.specs.Laws.{area_clusters, clusters_in, read_areas, WholeStream, whole_streams, file_stream, IsReadBack, HasRecords}
+use Rattle.ntfs_make.specs.Laws.{area_clusters, clusters_of_areas, read_areas, WholeStream, whole_streams, file_stream, IsReadBack, HasRecords}
 use Rattle.ntfs_make.proofs.ShapeLemmas.{bounds}
 use Rattle.ntfs_make.proofs.AreaLemmas.{covers}
 use Rattle.ntfs_make.proofs.StreamLemmas.{length-record, length-records, length-boot, length-index, length-ff, length-counting, length-bitmap, length-up_case, length-zeros}
@@ -111,7 +111,7 @@ length-volume shape = length-map-range_with_len (λ place. byte_from (volume_wri
 
 area-read : (shape : Shape) (number : ℕ) → IsShape shape → number < 29
     → join_clusters (read_clusters (volume_bytes_of shape.seed shape.clusters shape.cluster) shape.cluster (area_clusters (area_at shape number)))
-    ≡ bytes_from (stream_bytes shape (area_at shape number).content) ((area_at shape number).first_vcn * shape.cluster) ((area_at shape number).length * shape.cluster)
+    ≡ bytes_from (content_bytes shape (area_at shape number).content) ((area_at shape number).first_vcn * shape.cluster) ((area_at shape number).length * shape.cluster)
 area-read shape number is few =
     let area = area_at shape number in
     let c = shape.cluster in
@@ -124,7 +124,7 @@ area-read shape number is few =
     let next = add-mul shape.clusters 1 c in
     let long : length bytes ≡ area.length * c = simp (length-take, length-drop) (omega arith) in
     join-row volume c area.start area.length
-    ∙ from-is bytes (stream_bytes shape area.content) (area.first_vcn * c) (area.length * c) long (λ (k : ℕ) (below : k < area.length * c).
+    ∙ from-is bytes (content_bytes shape area.content) (area.first_vcn * c) (area.length * c) long (λ (k : ℕ) (below : k < area.length * c).
     get_or-take (area.length * c) (drop (area.start * c) volume) k 0 below ∙ get_or-drop (area.start * c) volume k 0
     ∙ holds-number shape number is few k below)
 
@@ -141,21 +141,21 @@ AreInRow shape content vcn (number ∷ numbers) =
     × AreInRow shape content (vcn + (area_at shape number).length) numbers))
 
 row-read : (shape : Shape) (content : Content) (vcn : ℕ) (numbers : List ℕ) → IsShape shape → AreInRow shape content vcn numbers
-    → read_areas shape numbers ≡ bytes_from (stream_bytes shape content) (vcn * shape.cluster) (vcns_in shape numbers * shape.cluster)
+    → read_areas shape numbers ≡ bytes_from (content_bytes shape content) (vcn * shape.cluster) (vcns_in shape numbers * shape.cluster)
 unfolding bytes_from
 row-read shape content vcn [] is row =
     let none : 0 * shape.cluster ≡ 0 = omega arith in
-    ap (λ n. bytes_from (stream_bytes shape content) (vcn * shape.cluster) n) (sym none)
+    ap (λ n. bytes_from (content_bytes shape content) (vcn * shape.cluster) n) (sym none)
 row-read shape content vcn (number ∷ numbers) is row =
     let area = area_at shape number in
     let c = shape.cluster in
-    let stream = stream_bytes shape content in
+    let stream = content_bytes shape content in
     let rest = row-read shape content (vcn + area.length) numbers is row.1.1.1 in
     let next = add-mul vcn area.length c in
     let all = add-mul area.length (vcns_in shape numbers) c in
-    join-append (volume_bytes_of shape.seed shape.clusters c) c (area_clusters area) (clusters_in shape numbers)
+    join-append (volume_bytes_of shape.seed shape.clusters c) c (area_clusters area) (clusters_of_areas shape numbers)
     ∙ ap (λ bytes. bytes ++ read_areas shape numbers) (area-read shape number is row.0
-    ∙ ap (λ one. bytes_from (stream_bytes shape one) (area.first_vcn * c) (area.length * c)) row.1.0
+    ∙ ap (λ one. bytes_from (content_bytes shape one) (area.first_vcn * c) (area.length * c)) row.1.0
     ∙ ap (λ first. bytes_from stream (first * c) (area.length * c)) row.1.1.0)
     ∙ ap (λ bytes. bytes_from stream (vcn * c) (area.length * c) ++ bytes) (rest ∙ ap (λ from. bytes_from stream from (vcns_in shape numbers * c)) next)
     ∙ from-append stream (vcn * c) (area.length * c) (vcns_in shape numbers * c)
@@ -164,15 +164,15 @@ row-read shape content vcn (number ∷ numbers) is row =
 -- a stream whose areas hold all of it
 record IsHeld (shape : Shape) (one : WholeStream) : Type 0 where
   row : AreInRow shape one.content 0 one.areas
-  whole : length (stream_bytes shape one.content) ≤ vcns_in shape one.areas * shape.cluster
+  whole : length (content_bytes shape one.content) ≤ vcns_in shape one.areas * shape.cluster
 
 read-back : (shape : Shape) (one : WholeStream) → IsShape shape → IsHeld shape one → IsReadBack shape one
 read-back shape one is held =
     let none : 0 * shape.cluster ≡ 0 = omega arith in (
-      vcns_in shape one.areas * shape.cluster - length (stream_bytes shape one.content),
+      vcns_in shape one.areas * shape.cluster - length (content_bytes shape one.content),
       row-read shape one.content 0 one.areas is held.row
-          ∙ ap (λ from. bytes_from (stream_bytes shape one.content) from (vcns_in shape one.areas * shape.cluster)) none
-          ∙ from-all (stream_bytes shape one.content) (vcns_in shape one.areas * shape.cluster) held.whole,
+          ∙ ap (λ from. bytes_from (content_bytes shape one.content) from (vcns_in shape one.areas * shape.cluster)) none
+          ∙ from-all (content_bytes shape one.content) (vcns_in shape one.areas * shape.cluster) held.whole,
     )
 
 -- ---- the area of a row of the table
@@ -183,12 +183,12 @@ IsFrom shape area row = (start : ℕ) × (area ≡ area_from shape start row)
 up-row : (shape : Shape) (start : ℕ) (rows : List AreaRow) (n : ℕ) (row : AreaRow) → slice_get rows n ≡ Some row → IsFrom shape (unwrap_or (slice_get (areas_up shape start rows) n) no_area) row
 up-row shape start [] n row is = absurd cc
 up-row shape start (first ∷ rows) zero row is = (start, cc)
-up-row shape start (first ∷ rows) (suc n) row is = up-row shape (start + (cluster_count shape first.length + 1)) rows n row is
+up-row shape start (first ∷ rows) (suc n) row is = up-row shape (start + (area_cluster_count shape first.length + 1)) rows n row is
 
 down-row : (shape : Shape) (bound : ℕ) (rows : List AreaRow) (n : ℕ) (row : AreaRow) → slice_get rows n ≡ Some row → IsFrom shape (unwrap_or (slice_get (areas_down shape bound rows) n) no_area) row
 down-row shape bound [] n row is = absurd cc
-down-row shape bound (first ∷ rows) zero row is = (bound - (cluster_count shape first.length + 1), cc)
-down-row shape bound (first ∷ rows) (suc n) row is = down-row shape (bound - (cluster_count shape first.length + 1)) rows n row is
+down-row shape bound (first ∷ rows) zero row is = (bound - (area_cluster_count shape first.length + 1), cc)
+down-row shape bound (first ∷ rows) (suc n) row is = down-row shape (bound - (area_cluster_count shape first.length + 1)) rows n row is
 
 first-row : (shape : Shape) (bound : ℕ) (rows : List AreaRow) (n : ℕ) (row : AreaRow) → slice_get rows n ≡ Some row
     → IsFrom shape (unwrap_or (slice_get (areas_up shape 0 (take 1 rows) ++ areas_down shape bound (drop 1 rows)) n) no_area) row
@@ -208,46 +208,46 @@ row-of shape n row is = either-row shape (shape.seed / 2 % 2 == 0) n row is
 -- ---- each stream is held
 
 single : (shape : Shape) (n : ℕ) (count : ClusterCount) (content : Content) → n < 29 → slice_get area_rows n ≡ Some (area_row count content)
-    → length (stream_bytes shape content) ≤ cluster_count shape count * shape.cluster → IsHeld shape (record { content = content; areas = n ∷ [] })
-unfolding cluster_count
+    → length (content_bytes shape content) ≤ area_cluster_count shape count * shape.cluster → IsHeld shape (record { content = content; areas = n ∷ [] })
+unfolding area_cluster_count
 single shape n count content few is fits =
     let area = row-of shape n (area_row count content) is in
-    let long : (area_at shape n).length ≡ cluster_count shape count = ap (λ (a : Area). a.length) area.1 in
-    let all : (area_at shape n).length + 0 ≡ cluster_count shape count = omega arith in
+    let long : (area_at shape n).length ≡ area_cluster_count shape count = ap (λ (a : Area). a.length) area.1 in
+    let all : (area_at shape n).length + 0 ≡ area_cluster_count shape count = omega arith in
     record {
       row = (few, (ap (λ (a : Area). a.content) area.1, (ap (λ (a : Area). a.first_vcn) area.1, tt)));
-      whole = subst (λ v. length (stream_bytes shape content) ≤ v * shape.cluster) (sym all) fits;
+      whole = subst (λ v. length (content_bytes shape content) ≤ v * shape.cluster) (sym all) fits;
     }
 
 double : (shape : Shape) (n m : ℕ) (count behind : ClusterCount) (content : Content) → n < 29 → m < 29 → slice_get area_rows n ≡ Some (area_row count content)
     → slice_get area_rows m ≡ Some (area_row_from count behind content)
-    → length (stream_bytes shape content) ≤ (cluster_count shape count + cluster_count shape behind) * shape.cluster → IsHeld shape (record { content = content; areas = n ∷ m ∷ [] })
-unfolding cluster_count
+    → length (content_bytes shape content) ≤ (area_cluster_count shape count + area_cluster_count shape behind) * shape.cluster → IsHeld shape (record { content = content; areas = n ∷ m ∷ [] })
+unfolding area_cluster_count
 double shape n m count behind content few few_too is then fits =
     let area = row-of shape n (area_row count content) is in
     let next = row-of shape m (area_row_from count behind content) then in
-    let long : (area_at shape n).length ≡ cluster_count shape count = ap (λ (a : Area). a.length) area.1 in
-    let long_next : (area_at shape m).length ≡ cluster_count shape behind = ap (λ (a : Area). a.length) next.1 in
+    let long : (area_at shape n).length ≡ area_cluster_count shape count = ap (λ (a : Area). a.length) area.1 in
+    let long_next : (area_at shape m).length ≡ area_cluster_count shape behind = ap (λ (a : Area). a.length) next.1 in
     let first : (area_at shape m).first_vcn ≡ 0 + (area_at shape n).length = ap (λ (a : Area). a.first_vcn) next.1 ∙ omega arith in
-    let all : (area_at shape n).length + ((area_at shape m).length + 0) ≡ cluster_count shape count + cluster_count shape behind = omega arith in
+    let all : (area_at shape n).length + ((area_at shape m).length + 0) ≡ area_cluster_count shape count + area_cluster_count shape behind = omega arith in
     record {
       row = (few, (ap (λ (a : Area). a.content) area.1, (ap (λ (a : Area). a.first_vcn) area.1, (few_too, (ap (λ (a : Area). a.content) next.1, (first, tt))))));
-      whole = subst (λ v. length (stream_bytes shape content) ≤ v * shape.cluster) (sym all) fits;
+      whole = subst (λ v. length (content_bytes shape content) ≤ v * shape.cluster) (sym all) fits;
     }
 
-fits-bytes : (shape : Shape) (bytes : ℕ) (text : List ℕ) → IsShape shape → length text ≤ bytes → length text ≤ cluster_count shape (ForBytes bytes) * shape.cluster
-unfolding cluster_count
+fits-bytes : (shape : Shape) (bytes : ℕ) (text : List ℕ) → IsShape shape → length text ≤ bytes → length text ≤ area_cluster_count shape (ForBytes bytes) * shape.cluster
+unfolding area_cluster_count
 fits-bytes shape bytes text is short =
     let b = bounds shape is in
     let room = covers bytes shape.cluster (omega arith) in
     omega arith
 
-fits-mft : (shape : Shape) → IsShape shape → length (stream_bytes shape Mft) ≤ (cluster_count shape (ForBytes 32768) + cluster_count shape (ForBytes 32768)) * shape.cluster
-unfolding stream_bytes cluster_count
+fits-mft : (shape : Shape) → IsShape shape → length (content_bytes shape Mft) ≤ (area_cluster_count shape (ForBytes 32768) + area_cluster_count shape (ForBytes 32768)) * shape.cluster
+unfolding content_bytes area_cluster_count
 fits-mft shape is =
     let b = bounds shape is in
     let room = covers 32768 shape.cluster (omega arith) in
-    let both = add-mul (cluster_count shape (ForBytes 32768)) (cluster_count shape (ForBytes 32768)) shape.cluster in
+    let both = add-mul (area_cluster_count shape (ForBytes 32768)) (area_cluster_count shape (ForBytes 32768)) shape.cluster in
     let long = length-records shape rows in
     let all = length-rows in
     omega arith
@@ -256,27 +256,27 @@ length-four : length (rows_between 0 4 rows) ≡ 4
 unfolding system_rows
 length-four = refl
 
-fits-mirror : (shape : Shape) → IsShape shape → length (stream_bytes shape Mirror) ≤ cluster_count shape (ForBytes 4096) * shape.cluster
-unfolding stream_bytes
+fits-mirror : (shape : Shape) → IsShape shape → length (content_bytes shape Mirror) ≤ area_cluster_count shape (ForBytes 4096) * shape.cluster
+unfolding content_bytes
 fits-mirror shape is =
     let long = length-records shape (rows_between 0 4 rows) in
     let four : length (rows_between 0 4 rows) ≡ 4 = length-four in
     fits-bytes shape 4096 (records_bytes shape (rows_between 0 4 rows)) is (omega arith)
 
-fits-bitmap : (shape : Shape) → IsShape shape → length (stream_bytes shape Bitmap) ≤ cluster_count shape ForBitmap * shape.cluster
-unfolding stream_bytes cluster_count
+fits-bitmap : (shape : Shape) → IsShape shape → length (content_bytes shape Bitmap) ≤ area_cluster_count shape ForBitmap * shape.cluster
+unfolding content_bytes area_cluster_count
 fits-bitmap shape is =
     let b = bounds shape is in
     let long = length-bitmap shape (bitmap_size shape.clusters) in
     let room = covers (bitmap_size shape.clusters) shape.cluster (omega arith) in
     omega arith
 
-fits-counting : (shape : Shape) (number : ℕ) (vcns : ClusterCount) → length (stream_bytes shape (Counting number vcns)) ≤ cluster_count shape vcns * shape.cluster
-unfolding stream_bytes
-fits-counting shape number vcns = let long = length-counting number (cluster_count shape vcns * shape.cluster) in omega arith
+fits-counting : (shape : Shape) (number : ℕ) (vcns : ClusterCount) → length (content_bytes shape (Counting number vcns)) ≤ area_cluster_count shape vcns * shape.cluster
+unfolding content_bytes
+fits-counting shape number vcns = let long = length-counting number (area_cluster_count shape vcns * shape.cluster) in omega arith
 
-fits-listed : (shape : Shape) → length (stream_bytes shape (Counting 21 (Exactly 2))) ≤ (cluster_count shape (Exactly 1) + cluster_count shape (Exactly 1)) * shape.cluster
-unfolding cluster_count
+fits-listed : (shape : Shape) → length (content_bytes shape (Counting 21 (Exactly 2))) ≤ (area_cluster_count shape (Exactly 1) + area_cluster_count shape (Exactly 1)) * shape.cluster
+unfolding area_cluster_count
 fits-listed shape = fits-counting shape 21 (Exactly 2)
 
 abbrev AllStreams : (WholeStream → Type 0) → List WholeStream → Type 0
@@ -292,7 +292,7 @@ file-held : (shape : Shape) (number : ℕ) → 13 + number < 29 → slice_get ar
 file-held shape number few is = single shape (13 + number) (OfFile number) (Counting (32 + number) (OfFile number)) few is (fits-counting shape (32 + number) (OfFile number))
 
 all-held : (shape : Shape) → IsShape shape → AllStreams (IsHeld shape) whole_streams
-unfolding whole_streams area_rows stream_bytes
+unfolding whole_streams area_rows content_bytes
 all-held shape is =
     let file = λ (number : ℕ) (few : 13 + number < 29) (row : slice_get area_rows (13 + number) ≡ Some (file_area_row number)). file-held shape number few row in
     let f12 : AllStreams (IsHeld shape) (drop 21 whole_streams) = (file 12 (omega arith) refl, (file 13 (omega arith) refl, (file 14 (omega arith) refl, (file 15 (omega arith) refl, tt)))) in
@@ -347,7 +347,7 @@ slice_get-within (first ∷ some) zero row is = omega arith
 slice_get-within (first ∷ some) (suc r) row is = let rest = slice_get-within some r row is in omega arith
 
 has-records : (shape : Shape) → IsShape shape → HasRecords shape
-unfolding stream_bytes whole_streams
+unfolding content_bytes whole_streams
 has-records shape is r row there =
     let read = read-back shape (record { content = Mft; areas = 1 ∷ 7 ∷ [] }) is (all-held shape is).1.0 in
     let more = zero_bytes read.0 in

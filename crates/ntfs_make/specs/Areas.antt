@@ -1,6 +1,7 @@
--- The areas of the volume, and where they stand. An area is a row of clusters, which hold VCNs of one stream in a row. The
--- table is this project's own.
+-- The areas of the volume, and where they stand. An area is a row of clusters, which hold VCNs of one stream in a
+-- row. The table is this project's own.
 use Rattle.std.specs.Prelude.{◌≡◌, ◌+◌, ◌-◌, ◌/◌, ◌%◌, ◌==◌, ℕ, List, [], ◌∷◌, ◌++◌, take, drop, slice_get, unwrap_or, if◌then◌else◌}
+use Rattle.ntfs_base.specs.Bytes.{clusters_for}
 use Rattle.ntfs_make.specs.declared.shape.Shape.{Shape}
 use Rattle.ntfs_make.specs.declared.table.AreaRow.{AreaRow}
 use Rattle.ntfs_make.specs.declared.table.Area.{Area}
@@ -8,7 +9,7 @@ use Rattle.ntfs_make.specs.declared.table.ClusterCount.{ClusterCount}
 use Rattle.ntfs_make.specs.declared.table.ClusterCount.TheVariants.{ForBytes, ForBitmap, Exactly, OfFile}
 use Rattle.ntfs_make.specs.declared.table.Content.{Content}
 use Rattle.ntfs_make.specs.declared.table.Content.TheVariants.{Boot, Mft, Mirror, Log, Bitmap, UpCase, Index, Counting}
-use Rattle.ntfs_make.specs.Shape.{IsShape, clusters_for, bitmap_size}
+use Rattle.ntfs_make.specs.Shape.{IsShape, bitmap_size}
 
 -- an area of so many clusters that holds a stream from a VCN on
 abbrev pub area_row_from : ClusterCount → ClusterCount → Content → AreaRow
@@ -22,9 +23,9 @@ area_row length content = area_row_from (Exactly 0) length content
 abbrev pub file_area_row : ℕ → AreaRow
 file_area_row number = area_row (OfFile number) (Counting (32 + number) (OfFile number))
 
--- the areas in their order: $Boot, the first VCNs of $MFT, $MFTMirr, $LogFile, $Bitmap, $UpCase, the root's index, the VCNs of
--- $MFT behind the first, those of `sparse.bin` (the third of its four VCNs), `half.bin` and `packed.bin` (the first four of
--- sixteen), both VCNs of `listed.bin`, and the sixteen files
+-- the areas in their order: $Boot, the first VCNs of $MFT, $MFTMirr, $LogFile, $Bitmap, $UpCase, the root's index,
+-- the VCNs of $MFT behind the first, those of `sparse.bin` (the third of its four VCNs), `half.bin` and `packed.bin`
+-- (the first four of sixteen), both VCNs of `listed.bin`, and the sixteen files
 unfoldable pub area_rows : List AreaRow
 area_rows =
     area_row (ForBytes 8192) Boot
@@ -47,18 +48,18 @@ area_rows =
     ∷ []
 
 -- how many clusters a count tells
-unfoldable pub cluster_count : Shape → ClusterCount → ℕ
-cluster_count shape (ForBytes bytes) = clusters_for bytes shape.cluster
-cluster_count shape ForBitmap = clusters_for (bitmap_size shape.clusters) shape.cluster
-cluster_count shape (Exactly count) = count
-cluster_count shape (OfFile number) = 1 + (shape.seed / 4 + number) % 4
+unfoldable pub area_cluster_count : Shape → ClusterCount → ℕ
+area_cluster_count shape (ForBytes bytes) = clusters_for bytes shape.cluster
+area_cluster_count shape ForBitmap = clusters_for (bitmap_size shape.clusters) shape.cluster
+area_cluster_count shape (Exactly count) = count
+area_cluster_count shape (OfFile number) = 1 + (shape.seed / 4 + number) % 4
 
 -- the area of a row, from a cluster on
 abbrev pub area_from : Shape → ℕ → AreaRow → Area
 area_from shape start row = record {
   start = start;
-  length = cluster_count shape row.length;
-  first_vcn = cluster_count shape row.first_vcn;
+  length = area_cluster_count shape row.length;
+  first_vcn = area_cluster_count shape row.first_vcn;
   content = row.content;
 }
 
@@ -66,14 +67,14 @@ area_from shape start row = record {
 abbrev pub areas_up : Shape → ℕ → List AreaRow → List Area
 areas_up shape start [] = []
 areas_up shape start (row ∷ rows) =
-    area_from shape start row ∷ areas_up shape (start + (cluster_count shape row.length + 1)) rows
+    area_from shape start row ∷ areas_up shape (start + (area_cluster_count shape row.length + 1)) rows
 
 -- areas one below the other, with one free cluster between, of which the first ends below the cluster before the bound
 abbrev pub areas_down : Shape → ℕ → List AreaRow → List Area
 areas_down shape bound [] = []
 areas_down shape bound (row ∷ rows) =
-    area_from shape (bound - (cluster_count shape row.length + 1)) row
-    ∷ areas_down shape (bound - (cluster_count shape row.length + 1)) rows
+    area_from shape (bound - (area_cluster_count shape row.length + 1)) row
+    ∷ areas_down shape (bound - (area_cluster_count shape row.length + 1)) rows
 
 -- all areas: $Boot at 0, and the others behind it or, where bit 1 of the seed is 1, below the end
 unfoldable pub areas_of : Shape → List Area

@@ -1,5 +1,6 @@
--- The attributes of a record (the Linux-NTFS documentation, "Attribute Header", "$ATTRIBUTE_LIST"). The names at the fields
--- are those of the layout; a field's place counts from the front of the attribute or entry. The words are ours.
+-- The attributes of a record (the Linux-NTFS documentation, "Attribute Header", "$ATTRIBUTE_LIST"). The names at the
+-- fields are those of the layout; a field's place counts from the front of the attribute or entry. The words are
+-- ours.
 use Rattle.std.specs.Prelude.{◌+◌, ◌-◌, ◌*◌, ◌%◌, ◌^◌, ◌==◌, ℕ, List, [], ◌∷◌, ◌++◌, length, flat_map, Option, Some, None, if◌then◌else◌}
 use Rattle.ntfs_make.specs.declared.shape.Shape.{Shape}
 use Rattle.ntfs_make.specs.declared.field.Field.TheVariants.{U8, U16, U32, U64, Zeros}
@@ -15,9 +16,9 @@ use Rattle.ntfs_make.specs.Extents.{run_of, vcn_count, pairs_of, size_of, planne
 use Rattle.ntfs_make.specs.Index.{reference, file_name_bytes, root_bytes}
 
 -- the lowest VCN that an entry of an attribute list tells
-abbrev pub entry_lowest : Shape → LowestVcn → ℕ
-entry_lowest shape Zero = 0
-entry_lowest shape (Behind number) = (area_at shape number).length
+abbrev pub listed_lowest : Shape → LowestVcn → ℕ
+listed_lowest shape Zero = 0
+listed_lowest shape (Behind number) = (area_at shape number).length
 
 -- an entry of an attribute list, without a name
 unfoldable pub list_entry_bytes : Shape → ListEntry → List ℕ
@@ -27,7 +28,7 @@ list_entry_bytes shape entry =
     ∷ U16 32  -- 0x04 length
     ∷ U8 0  -- 0x06 name_length
     ∷ U8 26  -- 0x07 name_offset
-    ∷ U64 (entry_lowest shape entry.lowest)  -- 0x08 lowest_vcn
+    ∷ U64 (listed_lowest shape entry.lowest)  -- 0x08 lowest_vcn
     ∷ U64 (reference entry.number)  -- 0x10 mft_reference
     ∷ U16 entry.instance  -- 0x18 instance
     ∷ Zeros 6  -- 0x1A
@@ -82,7 +83,8 @@ allocated_size_of shape extent =
     then (vcn_count shape (planned_runs extent) + (run_of shape extent.behind).length) * shape.cluster
     else 0
 
--- what stands between the fields of an extent and its mapping pairs: compressed_size at 0x40, where it is told, and the name
+-- what stands between the fields of an extent and its mapping pairs: compressed_size at 0x40, where it is told, and
+-- the name
 unfoldable pub front_bytes : Shape → List ℕ → Extent → List ℕ
 front_bytes shape name extent = compressed_size_bytes shape extent.compressed_size ++ with_padding (utf16_bytes name)
 

@@ -1,5 +1,5 @@
--- The boot sector (the Linux-NTFS documentation, "$Boot"). The names at the fields are those of the layout. The words are
--- ours.
+-- The boot sector (the Linux-NTFS documentation, "$Boot"). The names at the fields are those of the layout. The words
+-- are ours.
 use Rattle.std.specs.Prelude.{◌-◌, ◌/◌, ℕ, List, [], ◌∷◌, ◌++◌}
 use Rattle.ntfs_make.specs.declared.shape.Shape.{Shape}
 use Rattle.ntfs_make.specs.declared.field.Field.TheVariants.{U8, U16, U64, Zeros}

@@ -1,8 +1,8 @@
--- Index entries, index roots and the block of the root's index (the Linux-NTFS documentation, "Index Record", "$INDEX_ROOT",
--- "$FILE_NAME"). The names at the fields are those of the layout; a field's place counts from the front of its list. The
--- words are ours.
+-- Index entries, index roots and the block of the root's index (the Linux-NTFS documentation, "Index Record",
+-- "$INDEX_ROOT", "$FILE_NAME"). The names at the fields are those of the layout; a field's place counts from the
+-- front of its list. The words are ours.
 use Rattle.std.specs.Prelude.{◌+◌, ◌-◌, ◌/◌, ◌^◌, ℕ, List, [], ◌∷◌, ◌++◌, length, flat_map, nat_le, if◌then◌else◌}
-use Rattle.ntfs_fixup.specs.Fixups.{refixed}
+use Rattle.ntfs_fixup.specs.Fixups.{refix_of}
 use Rattle.ntfs_make.specs.declared.shape.Shape.{Shape}
 use Rattle.ntfs_make.specs.declared.field.Field.TheVariants.{U8, U16, U32, U64, Zeros}
 use Rattle.ntfs_make.specs.Fields.{fields_bytes, with_padding, with_length, utf16_bytes}
@@ -120,4 +120,4 @@ index_text =
 
 -- the block, with the fixup number 1
 unfoldable pub index_block : List ℕ
-index_block = refixed (with_length 4096 index_text)
+index_block = refix_of (with_length 4096 index_text)

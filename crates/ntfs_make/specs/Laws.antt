@@ -12,7 +12,7 @@ use Rattle.ntfs_make.specs.Table.{RowValue}
 use Rattle.ntfs_make.specs.Areas.{area_at}
 use Rattle.ntfs_make.specs.Rows.{rows}
 use Rattle.ntfs_make.specs.Records.{record_of_row}
-use Rattle.ntfs_make.specs.Streams.{stream_bytes}
+use Rattle.ntfs_make.specs.Streams.{content_bytes}
 use Rattle.ntfs_make.specs.Volume.{volume_bytes_of}
 
 -- the clusters of an area
@@ -20,21 +20,21 @@ abbrev pub area_clusters : Area → List ℕ
 area_clusters area = range_with_len area.start area.length
 
 -- the clusters of the areas of these numbers, one after the other
-abbrev pub clusters_in : Shape → List ℕ → List ℕ
-clusters_in shape numbers = flat_map (λ number. area_clusters (area_at shape number)) numbers
+abbrev pub clusters_of_areas : Shape → List ℕ → List ℕ
+clusters_of_areas shape numbers = flat_map (λ number. area_clusters (area_at shape number)) numbers
 
 -- what stands in these areas of the volume, read through their clusters
 abbrev pub read_areas : Shape → List ℕ → List ℕ
 read_areas shape numbers =
     join_clusters (read_clusters (volume_bytes_of shape.seed shape.clusters shape.cluster) shape.cluster
-    (clusters_in shape numbers))
+    (clusters_of_areas shape numbers))
 
 -- each byte of an area is that of its stream at the area's VCNs, and zero behind the stream
 abbrev pub HoldsVcns : Shape → Area → Type 0
 HoldsVcns shape area =
     (k : ℕ) → k < area.length * shape.cluster
     → slice_index (volume_bytes_of shape.seed shape.clusters shape.cluster) (area.start * shape.cluster + k)
-    ≡ slice_index (stream_bytes shape area.content) (area.first_vcn * shape.cluster + k)
+    ≡ slice_index (content_bytes shape area.content) (area.first_vcn * shape.cluster + k)
 
 -- a stream of which each VCN has a cluster, and the areas that have them in their order
 pub record WholeStream : Type 0 where
@@ -68,7 +68,7 @@ whole_streams =
 
 -- the areas of a stream have its bytes, all of them, and zeros behind them
 abbrev pub IsReadBack : Shape → WholeStream → Type 0
-IsReadBack shape one = (count : ℕ) × (read_areas shape one.areas ≡ stream_bytes shape one.content ++ zero_bytes count)
+IsReadBack shape one = (count : ℕ) × (read_areas shape one.areas ≡ content_bytes shape one.content ++ zero_bytes count)
 
 -- record r of the stream of $MFT is that of row r
 abbrev pub HasRecords : Shape → Type 0

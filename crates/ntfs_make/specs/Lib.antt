@@ -15,3 +15,4 @@ pub mod Volume
 pub mod Left
 pub mod Laws
 pub mod NameOrder
+pub mod ReadBack

@@ -1,7 +1,7 @@
--- File records (the Linux-NTFS documentation, "File Record"). The names at the fields are those of the layout. The words are
--- ours.
+-- File records (the Linux-NTFS documentation, "File Record"). The names at the fields are those of the layout. The
+-- words are ours.
 use Rattle.std.specs.Prelude.{◌+◌, ◌-◌, ◌==◌, ℕ, Bool, true, false, List, [], ◌∷◌, ◌++◌, length, take, drop, count_by, Option, Some, None, flat_map, if◌then◌else◌}
-use Rattle.ntfs_fixup.specs.Fixups.{refixed}
+use Rattle.ntfs_fixup.specs.Fixups.{refix_of}
 use Rattle.ntfs_make.specs.declared.shape.Shape.{Shape}
 use Rattle.ntfs_make.specs.declared.field.Field.TheVariants.{U16, U32, U64}
 use Rattle.ntfs_make.specs.Fields.{fields_bytes, with_length, zero_bytes}
@@ -65,7 +65,7 @@ record_text shape row =
 -- the record of a row, with the fixup number 1; one that isn't in use is zeros
 unfoldable pub record_of_row : Shape → RowValue → List ℕ
 record_of_row shape row =
-    if row.flags == 0 then zero_bytes 1024 else refixed (with_length 1024 (record_text shape row))
+    if row.flags == 0 then zero_bytes 1024 else refix_of (with_length 1024 (record_text shape row))
 
 -- records one after the other
 abbrev pub records_bytes : Shape → List RowValue → List ℕ

@@ -1,5 +1,5 @@
--- The names of the root in the order of its index: by their units mapped through $UpCase, and where these are the same by
--- their units (the Linux-NTFS documentation, "$I30", on the collation of file names). The words are ours.
+-- The names of the root in the order of its index: by their units mapped through $UpCase, and where these are the
+-- same by their units (the Linux-NTFS documentation, "$I30", on the collation of file names). The words are ours.
 use Rattle.std.specs.Prelude.{◌==◌, ℕ, Bool, true, false, List, [], ◌∷◌, map, flat_map, filter, nat_lt, if◌then◌else◌}
 use Rattle.ntfs_make.specs.Table.{RootNameValue, RowValue, BodyValue, ZerosBody, BytesBody, ListBody, NameBody, RootBody, ExtentBody}
 use Rattle.ntfs_make.specs.Rows.{rows}

@@ -1,5 +1,5 @@
--- The file records of the volume, in order of their number: their names, attributes and streams. The table is this project's
--- own; the files below 12 are those of every volume (the Linux-NTFS documentation, "NTFS Files").
+-- The file records of the volume, in order of their number: their names, attributes and streams. The table is this
+-- project's own; the files below 12 are those of every volume (the Linux-NTFS documentation, "NTFS Files").
 use Rattle.std.specs.Prelude.{List, [], ◌∷◌, ◌++◌, Some, None, codes}
 use Rattle.ntfs_make.specs.declared.table.LowestVcn.TheVariants.{Zero, Behind}
 use Rattle.ntfs_make.specs.declared.table.Size.TheVariants.{Exact, Clusters, ClusterAnd, Bitmap, Volume}

@@ -17,10 +17,6 @@ pub record IsShape (shape : Shape) : Type 0 where
 abbrev pub shape_of : ℕ → ℕ → ℕ → Shape
 shape_of seed clusters cluster = record { seed = seed; clusters = clusters; cluster = cluster }
 
--- how many clusters of c bytes these bytes need
-unfoldable pub clusters_for : ℕ → ℕ → ℕ
-clusters_for bytes c = (bytes + (c - 1)) / c
-
 -- the bytes of $Bitmap: words of 64 bits, as many as have a bit for each cluster
 unfoldable pub bitmap_size : ℕ → ℕ
 bitmap_size clusters = 8 * ((clusters + 63) / 64)

@@ -1,5 +1,5 @@
--- What the tables of the generator are made of, as values: the rows of the source without their references. The words are
--- ours.
+-- What the tables of the generator are made of, as values: the rows of the source without their references. The words
+-- are ours.
 use Rattle.std.specs.Prelude.{ℕ, List, [], ◌∷◌, map, Option, None}
 use Rattle.ntfs_make.specs.declared.table.Row.{Row}
 use Rattle.ntfs_make.specs.declared.table.Attribute.{Attribute}

@@ -27,8 +27,8 @@ shape_writes shape = map (area_write shape) (areas_of shape) ++ copy_write shape
 unfoldable pub volume_writes : ℕ → ℕ → ℕ → List Write
 volume_writes seed clusters cluster = shape_writes (shape_of seed clusters cluster)
 
--- the volume: the bytes of its areas and of the copy at their places, and zeros elsewhere. No two of them share a byte, as the
--- law `areas_are_apart` says, so their order plays no part
+-- the volume: the bytes of its areas and of the copy at their places, and zeros elsewhere. No two of them share a
+-- byte, as the law `areas_are_apart` says, so their order plays no part
 unfoldable pub volume_bytes_of : ℕ → ℕ → ℕ → List ℕ
 volume_bytes_of seed clusters cluster =
     map (λ place. byte_from (volume_writes seed clusters cluster) place 0) (range_with_len 0 ((clusters + 1) * cluster))

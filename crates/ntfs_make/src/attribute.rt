@@ -12,8 +12,8 @@ use crate::table::{Attribute, AttributeBody, Extent, ListEntry, LowestVcn, Size}
 use std::alloc::{AllocError, Global};
 
 // The lowest VCN that an entry of an attribute list tells.
-fn entry_lowest(layout: &Layout, lowest: LowestVcn) -> u64
-    ensures { result ≡ spec.entry_lowest layout.now lowest }
+fn listed_lowest(layout: &Layout, lowest: LowestVcn) -> u64
+    ensures { result ≡ spec.listed_lowest layout.now lowest }
 {
     match lowest {
         LowestVcn::Zero => 0,
@@ -33,7 +33,7 @@ fn put_list_entry(out: &mut Vec<u8>, layout: &Layout, entry: &ListEntry) -> Resu
             Field::U16(32), // 0x04 length
             Field::U8(0), // 0x06 name_length
             Field::U8(26), // 0x07 name_offset
-            Field::U64(entry_lowest(layout, entry.lowest)), // 0x08 lowest_vcn
+            Field::U64(listed_lowest(layout, entry.lowest)), // 0x08 lowest_vcn
             Field::U64(reference(entry.number)), // 0x10 mft_reference
             Field::U16(u64::from(entry.instance)), // 0x18 instance
             Field::Zeros(6), // 0x1A

@@ -78,10 +78,10 @@ fn area_or_none(areas: &[Area], number: usize) -> Area
 }
 
 // How many clusters a count tells.
-#[tactic(auto, unfolding(crate::specs::Areas::cluster_count))]
-pub(crate) fn cluster_count(shape: &Shape, count: ClusterCount) -> u64
+#[tactic(auto, unfolding(crate::specs::Areas::area_cluster_count))]
+pub(crate) fn area_cluster_count(shape: &Shape, count: ClusterCount) -> u64
     requires { IsShape shape.now }
-    ensures exact { result ≡ spec.cluster_count shape.now count }
+    ensures exact { result ≡ spec.area_cluster_count shape.now count }
     ensures small { result < 2 ^ 33 }
 {
     match count {
@@ -100,8 +100,8 @@ fn area_from(shape: &Shape, start: u64, row: &AreaRow) -> Area
 {
     Area {
         start,
-        length: cluster_count(shape, row.length),
-        first_vcn: cluster_count(shape, row.first_vcn),
+        length: area_cluster_count(shape, row.length),
+        first_vcn: area_cluster_count(shape, row.first_vcn),
         content: row.content,
     }
 }
@@ -124,11 +124,12 @@ fn put_up(areas: &mut Vec<Area>, shape: &Shape, rows: &[AreaRow]) -> Result<(), 
 // Puts areas one below the other, from the last cluster on, with a free cluster between.
 fn put_down(areas: &mut Vec<Area>, shape: &Shape, rows: &[AreaRow]) -> Result<(), AllocError>
     requires { IsShape shape.now }
-    ensures { OnOk result (areas.new.items ≡ areas.old.items ++ spec.areas_down shape.now (shape.now.clusters + 1) rows.now) }
+    ensures { OnOk result (areas.new.items ≡ areas.old.items
+        ++ spec.areas_down shape.now (shape.now.clusters + 1) rows.now) }
 {
     let mut bound = shape.clusters + 1;
     'rows: for row in rows {
-        bound = bound.saturating_sub(cluster_count(shape, row.length) + 1);
+        bound = bound.saturating_sub(area_cluster_count(shape, row.length) + 1);
         areas.push(area_from(shape, bound, row))?;
     }
     Ok(())

@@ -55,7 +55,8 @@ fn write_copy<G: Image>(alloc: Global, image: &mut G, layout: &Layout) -> Result
 // Writes what stands in all areas.
 fn write_areas<G: Image>(alloc: Global, image: &mut G, layout: &Layout) -> Result<(), MakeFault>
     requires { (G.seen image.old).size ≡ (layout.now.clusters + 1) * layout.now.cluster }
-    ensures wrote { Wrote (map (spec.area_write layout.now) (areas_of layout.now)) (G.seen image.old) result (G.seen image.new) }
+    ensures wrote { Wrote (map (spec.area_write layout.now) (areas_of layout.now)) (G.seen image.old) result
+        (G.seen image.new) }
     ensures writes { OnlyWrites G.Image spec.make_origin image.old image.new result }
 {
     let areas = layout.areas();
@@ -65,8 +66,8 @@ fn write_areas<G: Image>(alloc: Global, image: &mut G, layout: &Layout) -> Resul
     Ok(())
 }
 
-/// Makes a volume of so many clusters of so many bytes each, as the seed tells. It reads nothing, and writes only where the
-/// volume has bytes that aren't zero, so the image has to be zeros before.
+/// Makes a volume of so many clusters of so many bytes each, as the seed tells. It reads nothing, and writes only
+/// where the volume has bytes that aren't zero, so the image has to be zeros before.
 pub fn make<G: Image>(
     alloc: Global,
     image: &mut G,
@@ -76,14 +77,17 @@ pub fn make<G: Image>(
 ) -> Result<(), MakeFault>
     requires range { IsShape (shape_of seed clusters cluster) }
     requires size { (G.seen image.old).size ≡ (clusters + 1) * cluster }
-    requires zeros { IsTrue (G.seen image.old).is_told → (G.seen image.old).content ≡ replicate ((clusters + 1) * cluster) 0 }
+    requires zeros { IsTrue (G.seen image.old).is_told
+        → (G.seen image.old).content ≡ replicate ((clusters + 1) * cluster) 0 }
     // All writes are made, or, after a fault, those of a front; all but the content stays.
     ensures wrote { Wrote (spec.volume_writes seed clusters cluster) (G.seen image.old) result (G.seen image.new) }
     // The count of write faults rose where a write failed, and none fell.
     ensures writes { OnlyWrites G.Image spec.make_origin image.old image.new result }
-    ensures made { OnOk result (IsTrue (G.seen image.old).is_told → (G.seen image.new).content ≡ spec.volume_bytes_of seed clusters cluster) }
+    ensures made { OnOk result (IsTrue (G.seen image.old).is_told
+        → (G.seen image.new).content ≡ spec.volume_bytes_of seed clusters cluster) }
     // After a fault each byte is zero or that of the volume.
-    ensures left { OnErr result (IsTrue (G.seen image.old).is_told → IsZeroOrMade seed clusters cluster (G.seen image.new).content) }
+    ensures left { OnErr result (IsTrue (G.seen image.old).is_told
+        → IsZeroOrMade seed clusters cluster (G.seen image.new).content) }
 {
     let shape = Shape {
         seed,

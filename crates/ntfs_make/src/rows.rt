@@ -18,7 +18,11 @@ macro_rules! standard {
 // $FILE_NAME.
 macro_rules! file_name {
     ($parent:expr, $space:expr, $letters:expr) => {
-        Attribute { kind: 0x30, name: b"", body: AttributeBody::Name(FileName { parent: $parent, space: $space, letters: $letters }) }
+        Attribute {
+            kind: 0x30,
+            name: b"",
+            body: AttributeBody::Name(FileName { parent: $parent, space: $space, letters: $letters }),
+        }
     };
 }
 

@@ -1,4 +1,5 @@
 ghost use Rattle.std.specs.Prelude.{◌≡◌, ◌≤◌, ◌<◌, ◌^◌, ℕ, IsTrue, IsFalse};
+ghost use Rattle.ntfs_base.specs.Bytes.{clusters_for};
 ghost use Rattle.ntfs_make.specs.Shape as spec;
 
 /// What a volume is made from: the seed, the number of clusters and the bytes of each.
@@ -10,12 +11,12 @@ pub struct Shape {
 }
 
 // How many clusters these bytes need.
-#[tactic(auto, unfolding(crate::specs::Shape::clusters_for))]
+#[tactic(auto, unfolding(ntfs_base::specs::Bytes::clusters_for))]
 pub(crate) fn clusters_for(bytes: u64, cluster: u64) -> u64
     requires bytes { bytes < 2 ^ 40 }
     requires cluster { 512 ≤ cluster }
     requires most { cluster ≤ 65536 }
-    ensures { result ≡ spec.clusters_for bytes cluster }
+    ensures { result ≡ clusters_for bytes cluster }
 {
     (bytes + (cluster - 1)) / cluster
 }

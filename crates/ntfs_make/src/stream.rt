@@ -11,7 +11,7 @@ ghost use Rattle.ntfs_make.specs.declared.table.Content.TheVariants.{Mft, Counti
 
 use crate::boot::boot_sector;
 use crate::index::index_block;
-use crate::layout::{Layout, cluster_count};
+use crate::layout::{Layout, area_cluster_count};
 use crate::record::put_records;
 use crate::rows::{file_rows, kind_rows, spare_rows, system_rows};
 use crate::shape::{bad_cluster, bitmap_size};
@@ -81,9 +81,9 @@ fn has_area(areas: &[Area], cluster: u64) -> bool
 }
 
 // The bit of a cluster in $Bitmap: 1 where it is in use, and from the number of clusters on.
-#[tactic(auto, unfolding(crate::specs::Streams::bit_of))]
-fn bit_of(layout: &Layout, cluster: u64) -> u8
-    ensures exact { result ≡ spec.bit_of layout.now cluster }
+#[tactic(auto, unfolding(crate::specs::Streams::bitmap_bit))]
+fn bitmap_bit(layout: &Layout, cluster: u64) -> u8
+    ensures exact { result ≡ spec.bitmap_bit layout.now cluster }
     ensures bit { result ≤ 1 }
 {
     let clusters = layout.shape().clusters;
@@ -128,14 +128,14 @@ fn mixed_byte(layout: &Layout, cluster: u64) -> u8
     requires { cluster < 2 ^ 50 }
     ensures { result ≡ spec.byte_of layout.now cluster }
 {
-    bit_of(layout, cluster)
-        + 2 * bit_of(layout, cluster + 1)
-        + 4 * bit_of(layout, cluster + 2)
-        + 8 * bit_of(layout, cluster + 3)
-        + 16 * bit_of(layout, cluster + 4)
-        + 32 * bit_of(layout, cluster + 5)
-        + 64 * bit_of(layout, cluster + 6)
-        + 128 * bit_of(layout, cluster + 7)
+    bitmap_bit(layout, cluster)
+        + 2 * bitmap_bit(layout, cluster + 1)
+        + 4 * bitmap_bit(layout, cluster + 2)
+        + 8 * bitmap_bit(layout, cluster + 3)
+        + 16 * bitmap_bit(layout, cluster + 4)
+        + 32 * bitmap_bit(layout, cluster + 5)
+        + 64 * bitmap_bit(layout, cluster + 6)
+        + 128 * bitmap_bit(layout, cluster + 7)
 }
 
 // A byte of $Bitmap. Most clusters of a large volume are free, and are told by eight.
@@ -220,7 +220,8 @@ fn records_between(
 fn mft_part(alloc: Global, layout: &Layout, from: u64, count: u64) -> Result<StreamPart, AllocError>
     requires from { from < 2 ^ 60 }
     requires count { count < 2 ^ 60 }
-    ensures { IfOk result (λ part. spec.HasBetween from count (spec.stream_bytes layout.now Mft) part.place part.bytes.items) }
+    ensures { IfOk result (λ part. spec.HasBetween from count (spec.content_bytes layout.now Mft) part.place
+        part.bytes.items) }
 {
     let last = ((from + count + 1023) / 1024).min(64);
     let first = (from / 1024).min(last);
@@ -241,17 +242,19 @@ fn counting_part(
     count: u64,
 ) -> Result<StreamPart, AllocError>
     requires from { from < 2 ^ 59 }
-    ensures { IfOk result (λ part. spec.HasBetween from count (spec.stream_bytes layout.now (Counting number vcns)) part.place part.bytes.items) }
+    ensures { IfOk result (λ part. spec.HasBetween from count (spec.content_bytes layout.now (Counting number vcns))
+        part.place part.bytes.items) }
 {
     let shape = layout.shape();
-    let size = cluster_count(&shape, vcns) * shape.cluster;
+    let size = area_cluster_count(&shape, vcns) * shape.cluster;
     let left = size.saturating_sub(from).min(count);
     let bytes = counting_bytes(alloc, u64::from(number) + from, left)?;
     Ok(StreamPart { bytes, place: from })
 }
 
-// So much of a stream that it has so many bytes from a place on: what can be large is made in part, and the others whole.
-#[tactic(auto, unfolding(crate::specs::Streams::stream_bytes))]
+// So much of a stream that it has so many bytes from a place on: what can be large is made in part, and the others
+// whole.
+#[tactic(auto, unfolding(crate::specs::Streams::content_bytes))]
 pub(crate) fn stream_part(
     alloc: Global,
     layout: &Layout,
@@ -261,7 +264,8 @@ pub(crate) fn stream_part(
 ) -> Result<StreamPart, AllocError>
     requires from { from < 2 ^ 59 }
     requires count { count < 2 ^ 60 }
-    ensures { IfOk result (λ part. spec.HasBetween from count (spec.stream_bytes layout.now content) part.place part.bytes.items) }
+    ensures { IfOk result (λ part. spec.HasBetween from count (spec.content_bytes layout.now content) part.place
+        part.bytes.items) }
 {
     match content {
         Content::Boot => Ok(whole(boot_sector(alloc, layout)?)),

@@ -1,6 +1,7 @@
 //! What the rows of the tables are made of.
 
-/// A row of the table of areas: how many clusters an area has, from which VCN on it holds its stream, and what that has.
+/// A row of the table of areas: how many clusters an area has, from which VCN on it holds its stream, and what that
+/// has.
 #[derive(Clone, Copy)]
 pub struct AreaRow {
     pub length: ClusterCount,
@@ -116,8 +117,8 @@ pub enum Root {
     One(u32, FileName),
 }
 
-/// An extent of a stream: what stands before it in the stream, the three runs that it has, and what stands behind it. The sizes
-/// are the stream's; an extent that isn't the first tells 0.
+/// An extent of a stream: what stands before it in the stream, the three runs that it has, and what stands behind it.
+/// The sizes are the stream's; an extent that isn't the first tells 0.
 #[derive(Clone, Copy)]
 pub struct Extent {
     pub flags: u16,

@@ -19,7 +19,8 @@ fn zeros(alloc: Global, count: usize) -> Result<Vec<u8>, AllocError>
 
 // An image of zeros for so many clusters of so many bytes.
 fn blank(alloc: Global, clusters: u32, cluster: u32) -> Result<MemImage, AllocError>
-    ensures content { IfOk result (λ image. (seen_of [] image.inside).content ≡ replicate ((clusters + 1) * cluster) 0) }
+    ensures content { IfOk result (λ image. (seen_of [] image.inside).content
+        ≡ replicate ((clusters + 1) * cluster) 0) }
     ensures size { IfOk result (λ image. (seen_of [] image.inside).size ≡ (clusters + 1) * cluster) }
 {
     let bytes = zeros(alloc, (clusters as usize + 1) * cluster as usize)?;
@@ -324,6 +325,9 @@ fn volumes_with_clusters_of_65536_bytes(rt: HostRuntime) -> Result<(), Fail> {
             (1, 14553551941787),
             (2, 14510817719645),
             (3, 14510818491060),
+            (5, 14553427993572),
+            (6, 14510670269051),
+            (7, 14510671038478),
         ],
     )
 }
@@ -334,6 +338,7 @@ fn volumes_of_other_counts_and_seeds(rt: HostRuntime) -> Result<(), Fail> {
         (987654321987654321, 2100, 1024, 1309064519165),
         (18446744073709551615, 1030, 2048, 1510106915158),
         (77, 1100, 8192, 2767793145508),
+        (3, 5000, 512, 1206666679912),
         (6, 1500, 16384, 4530789987344),
         (9, 1024, 32768, 7576687161589),
     ] {
@@ -413,8 +418,8 @@ fn the_range_ends_where_it_is_said(rt: HostRuntime) -> Result<(), Fail> {
     Ok(())
 }
 
-/// Makes a volume: whether it was made. Where it wasn't, memory was wanting. `tools/refused_memory.py` has each allocation of it
-/// refused in turn.
+/// Makes a volume: whether it was made. Where it wasn't, memory was wanting. `tools/refused_memory.py` has each
+/// allocation of it refused in turn.
 fn making_is_whole(rt: &impl Abort, host: &HostRuntime) -> Result<bool, Fail> {
     let alloc = host.alloc();
     let Ok(mut image) = blank(alloc, 2048, 512) else {

@@ -2,5 +2,7 @@ pub mod Numbers
 pub mod Sound
 pub mod Places
 pub mod RecordLemmas
-pub mod PartLemmas
-pub mod EntryLemmas
+pub mod StandsLemmas
+pub mod RawLemmas
+pub mod SlotLemmas
+pub mod SpellingLemmas

@@ -1,14 +1,16 @@
 -- What a header and an attribute with nothing wrong say in plain facts.
 use Rattle.std.proofs.Common.{◌≡◌, ℕ, ◌+◌, ◌*◌, ◌%◌, ◌<◌, ◌≤◌, Bool, true, false, cond, leb, eqb, List, [], ◌∷◌, length, None, refl, arith, inl, inr, ◌⊎◌}
 use Rattle.std.proofs.lemmas.Bool.{leb-true, eqb-true, and_parts, or_cases}
-use Rattle.ntfs_record.specs.Layout.{array_offset_of, array_count_of, first_attribute_of, in_use_of, allocated_of, kind_at, length_at, non_resident_at, name_units_at, name_offset_at}
-use Rattle.ntfs_record.specs.Header.{has_magic, has_size, has_room, has_first, check, first_wrong, header_fault_of}
-use Rattle.ntfs_record.specs.Attribute.{is_resident_at, least_length_at, has_length, has_name, has_value, has_runs, has_body, is_sound, is_end, end_kind, HasValue, HasRuns, IsSoundAt}
+use Rattle.ntfs_base.specs.Checks.{check, first_wrong}
+use Rattle.ntfs_record.specs.Layout.{array_offset, array_count, first_attribute_of, in_use_of, allocated_of, kind_at, length_at, non_resident_at, name_units_at, name_offset_at}
+use Rattle.ntfs_record.specs.Header.{begins_file, has_size, has_room, has_first, header_fault_of}
+use Rattle.ntfs_record.specs.Attribute.{is_resident_at, least_length_at, has_length, has_name_inside, has_value, has_runs, has_body, is_sound, is_end, end_kind, HasValue, HasRuns, IsSoundAt}
 
 -- ---- the header
 
 -- four tests in a row of which none fails
-pub all_pass : (a b c d : Bool) → first_wrong (check 1 a ∷ check 2 b ∷ check 3 c ∷ check 4 d ∷ []) ≡ None → (a ≡ true) × (b ≡ true) × (c ≡ true) × (d ≡ true)
+pub all_pass : (a b c d : Bool) → first_wrong {X = ℕ} (check a 1 ∷ check b 2 ∷ check c 3 ∷ check d 4 ∷ []) ≡ None
+    → (a ≡ true) × (b ≡ true) × (c ≡ true) × (d ≡ true)
 all_pass true true true true e = (refl, refl, refl, refl)
 all_pass true true true false e = absurd cc
 all_pass true true false d e = absurd cc
@@ -20,14 +22,14 @@ pub record SoundHeader (bytes : List ℕ) : Type 0 where
   pub allocated : allocated_of bytes ≡ length bytes
   pub in_use : in_use_of bytes ≤ length bytes
   pub aligned : first_attribute_of bytes % 8 ≡ 0
-  pub behind_array : array_offset_of bytes + 2 * array_count_of bytes ≤ first_attribute_of bytes
+  pub behind_array : array_offset bytes + 2 * array_count bytes ≤ first_attribute_of bytes
   pub behind_header : 40 ≤ first_attribute_of bytes
   pub first : first_attribute_of bytes + 4 ≤ in_use_of bytes
 
 pub sound_header : (bytes : List ℕ) → header_fault_of bytes ≡ None → SoundHeader bytes
 unfolding header_fault_of has_size has_room has_first
 sound_header bytes e =
-    let p = all_pass (has_magic bytes) (has_size bytes) (has_room bytes) (has_first bytes) e in
+    let p = all_pass (begins_file bytes) (has_size bytes) (has_room bytes) (has_first bytes) e in
     let size = and_parts (leb 32 (length bytes)) (eqb (allocated_of bytes) (length bytes)) p.1 in
     let first = and_parts _ _ p.3 in
     let array = and_parts _ _ first.1 in
@@ -77,7 +79,7 @@ sound_length used place bytes e =
 pub record SoundParts (used place : ℕ) (bytes : List ℕ) : Type 0 where
   pub length : SoundLength used place bytes
   pub residence : non_resident_at place bytes ≤ 1
-  pub name : has_name place bytes ≡ true
+  pub name : has_name_inside place bytes ≡ true
   pub body : has_body place bytes ≡ true
 
 pub sound_parts : (used place : ℕ) (bytes : List ℕ) → is_sound used place bytes ≡ true → SoundParts used place bytes
@@ -101,28 +103,32 @@ unsound_short used place bytes short =
     ]
 
 -- where the list ends, four bytes are left
-pub end_within : (used place : ℕ) (bytes : List ℕ) → is_end used place bytes ≡ true → (place + 4 ≤ used) × (kind_at place bytes ≡ end_kind)
+pub end_within : (used place : ℕ) (bytes : List ℕ) → is_end used place bytes ≡ true
+    → (place + 4 ≤ used) × (kind_at place bytes ≡ end_kind)
 unfolding is_end
 end_within used place bytes e = let p = and_parts _ _ e in (leb-true _ _ p.0, eqb-true _ _ p.1)
 
 -- ---- the test and the plain facts
 
-sound_name : (place : ℕ) (bytes : List ℕ) → has_name place bytes ≡ true → 0 < name_units_at place bytes → name_offset_at place bytes + 2 * name_units_at place bytes ≤ length_at place bytes
-unfolding has_name
+sound_name : (place : ℕ) (bytes : List ℕ) → has_name_inside place bytes ≡ true → 0 < name_units_at place bytes
+    → name_offset_at place bytes + 2 * name_units_at place bytes ≤ length_at place bytes
+unfolding has_name_inside
 sound_name place bytes e some =
     elim (or_cases _ _ e) [
       | inl none ↦ let h : name_units_at place bytes ≡ 0 = eqb-true _ _ none in absurd (omega arith)
       | inr within ↦ leb-true _ _ within
     ]
 
-sound_value : (used place : ℕ) (bytes : List ℕ) → SoundParts used place bytes → non_resident_at place bytes ≡ 0 → HasValue place bytes
+sound_value : (used place : ℕ) (bytes : List ℕ) → SoundParts used place bytes → non_resident_at place bytes ≡ 0
+    → HasValue place bytes
 unfolding has_value
 sound_value used place bytes s is =
     let value : has_value place bytes ≡ true = rw (is) at s.body in
     let p = and_parts _ _ value in
     record { fields = s.length.more; begins = leb-true _ _ p.0; ends = leb-true _ _ p.1 }
 
-sound_runs : (used place : ℕ) (bytes : List ℕ) → SoundParts used place bytes → non_resident_at place bytes ≡ 1 → HasRuns place bytes
+sound_runs : (used place : ℕ) (bytes : List ℕ) → SoundParts used place bytes → non_resident_at place bytes ≡ 1
+    → HasRuns place bytes
 unfolding has_runs
 sound_runs used place bytes s is =
     let runs : has_runs place bytes ≡ true = rw (is) at s.body in

@@ -1,9 +1,9 @@
 -- An attribute at a place of a file record: its tests, what it says, and what holds where nothing is wrong with it (the
 -- Linux-NTFS documentation, "Attribute Header").
-use Rattle.std.specs.Prelude.{ℕ, ◌≡◌, ◌≤◌, ◌<◌, ◌+◌, ◌*◌, ◌-◌, ◌%◌, ◌^◌, ◌==◌, ◌&&◌, ◌||◌, Bool, true, false, List, [], nat_le, if◌then◌else◌}
+use Rattle.std.specs.Prelude.{ℕ, ◌≡◌, ◌≢◌, ◌≤◌, ◌<◌, ◌+◌, ◌*◌, ◌-◌, ◌%◌, ◌^◌, ◌==◌, ◌&&◌, ◌||◌, Bool, true, false, List, [], length, nat_le, if◌then◌else◌}
 use Rattle.ntfs_base.specs.Bytes.{piece_at}
 use Rattle.ntfs_record.specs.Layout.{kind_at, length_at, non_resident_at, name_units_at, name_offset_at, attribute_flags_at, instance_at, value_length_at, value_offset_at, lowest_at, highest_at, pairs_offset_at, allocated_at, size_at, valid_at}
-use Rattle.ntfs_record.specs.Entry.{Part}
+use Rattle.ntfs_record.specs.Face.{Attribute, Laid}
 
 -- the type that ends the list of attributes
 abbrev pub end_kind : ℕ
@@ -28,24 +28,28 @@ next_at place bytes = next_of (highest_at place bytes)
 -- the length is a multiple of 8, has room for the fields, and leaves the last 4 bytes in use
 unfoldable pub has_length : ℕ → ℕ → List ℕ → Bool
 has_length used place bytes =
-    (length_at place bytes % 8 == 0) && (nat_le (least_length_at place bytes) (length_at place bytes) && nat_le (place + length_at place bytes + 4) used)
+    (length_at place bytes % 8 == 0)
+    && (nat_le (least_length_at place bytes) (length_at place bytes) && nat_le (place + length_at place bytes + 4) used)
 
 -- a name of at least one unit ends within the length
-unfoldable pub has_name : ℕ → List ℕ → Bool
-has_name place bytes =
-    (name_units_at place bytes == 0) || nat_le (name_offset_at place bytes + 2 * name_units_at place bytes) (length_at place bytes)
+unfoldable pub has_name_inside : ℕ → List ℕ → Bool
+has_name_inside place bytes =
+    (name_units_at place bytes == 0)
+    || nat_le (name_offset_at place bytes + 2 * name_units_at place bytes) (length_at place bytes)
 
 -- the value stands behind the fields and ends within the length
 unfoldable pub has_value : ℕ → List ℕ → Bool
 has_value place bytes =
-    nat_le 24 (value_offset_at place bytes) && nat_le (value_offset_at place bytes + value_length_at place bytes) (length_at place bytes)
+    nat_le 24 (value_offset_at place bytes)
+    && nat_le (value_offset_at place bytes + value_length_at place bytes) (length_at place bytes)
 
--- the mapping pairs stand behind the fields and within the length, the lowest VCN is at most 2^48, and the highest, as a
--- signed number, at least the lowest less one and at most 2^48
+-- the mapping pairs stand behind the fields and within the length, the lowest VCN is at most 2^48, and the highest,
+-- as a signed number, at least the lowest less one and at most 2^48
 unfoldable pub has_runs : ℕ → List ℕ → Bool
 has_runs place bytes =
     nat_le 64 (pairs_offset_at place bytes) && (nat_le (pairs_offset_at place bytes) (length_at place bytes)
-    && (nat_le (lowest_at place bytes) (2 ^ 48) && (nat_le (lowest_at place bytes) (next_at place bytes) && nat_le (next_at place bytes) (2 ^ 48 + 1))))
+    && (nat_le (lowest_at place bytes) (2 ^ 48)
+    && (nat_le (lowest_at place bytes) (next_at place bytes) && nat_le (next_at place bytes) (2 ^ 48 + 1))))
 
 -- the value of a resident attribute, or the runs of another
 abbrev pub has_body : ℕ → List ℕ → Bool
@@ -54,7 +58,8 @@ has_body place bytes = if is_resident_at place bytes then has_value place bytes 
 -- nothing is wrong with the attribute at a place, of a record with so many bytes in use
 unfoldable pub is_sound : ℕ → ℕ → List ℕ → Bool
 is_sound used place bytes =
-    has_length used place bytes && (nat_le (non_resident_at place bytes) 1 && (has_name place bytes && has_body place bytes))
+    has_length used place bytes
+    && (nat_le (non_resident_at place bytes) 1 && (has_name_inside place bytes && has_body place bytes))
 
 -- the list of attributes ends at the place
 unfoldable pub is_end : ℕ → ℕ → List ℕ → Bool
@@ -70,21 +75,18 @@ value_at place bytes = piece_at (place + value_offset_at place bytes) (value_len
 
 -- the bytes of the mapping pairs, from their offset to the attribute's end
 abbrev pub pairs_at : ℕ → List ℕ → List ℕ
-pairs_at place bytes = piece_at (place + pairs_offset_at place bytes) (length_at place bytes - pairs_offset_at place bytes) bytes
+pairs_at place bytes =
+    piece_at (place + pairs_offset_at place bytes) (length_at place bytes - pairs_offset_at place bytes) bytes
 
 -- what a resident attribute says
-unfoldable pub resident_at : ℕ → List ℕ → Part (List ℕ)
+unfoldable pub resident_at : ℕ → List ℕ → Attribute (Laid (List ℕ))
 resident_at place bytes = record {
-  head = record {
-    place = place;
-    length = length_at place bytes;
+  face = record {
     kind = kind_at place bytes;
-    name_offset = name_offset_at place bytes;
     name = name_at place bytes;
     flags = attribute_flags_at place bytes;
     instance = instance_at place bytes;
     is_resident = true;
-    body_offset = value_offset_at place bytes;
     value = value_at place bytes;
     lowest = 0;
     next = 0;
@@ -94,23 +96,22 @@ resident_at place bytes = record {
     unit = [];
     packed = [];
   };
-  payload = [];
+  payload = record {
+    spot = record { name_offset = name_offset_at place bytes; body_offset = value_offset_at place bytes };
+    runs = [];
+  };
 }
 
--- what a non-resident attribute says; the six bytes at 0x22 begin with the compression unit, and where the pairs begin at
--- 72 or later eight bytes at 0x40 may tell the size of the clusters that a compressed or sparse stream has
-unfoldable pub runs_at : ℕ → List ℕ → Part (List ℕ)
+-- what a non-resident attribute says; the six bytes at 0x22 begin with the compression unit, and where the pairs
+-- begin at 72 or later eight bytes at 0x40 may tell the size of the clusters that a compressed or sparse stream has
+unfoldable pub runs_at : ℕ → List ℕ → Attribute (Laid (List ℕ))
 runs_at place bytes = record {
-  head = record {
-    place = place;
-    length = length_at place bytes;
+  face = record {
     kind = kind_at place bytes;
-    name_offset = name_offset_at place bytes;
     name = name_at place bytes;
     flags = attribute_flags_at place bytes;
     instance = instance_at place bytes;
     is_resident = false;
-    body_offset = pairs_offset_at place bytes;
     value = [];
     lowest = lowest_at place bytes;
     next = next_at place bytes;
@@ -120,12 +121,25 @@ runs_at place bytes = record {
     unit = piece_at (place + 0x22) 6 bytes;
     packed = if nat_le 72 (pairs_offset_at place bytes) then piece_at (place + 0x40) 8 bytes else [];
   };
-  payload = pairs_at place bytes;
+  payload = record {
+    spot = record { name_offset = name_offset_at place bytes; body_offset = pairs_offset_at place bytes };
+    runs = pairs_at place bytes;
+  };
 }
 
 -- what the attribute at a place says
-unfoldable pub part_at : List ℕ → ℕ → Part (List ℕ)
-part_at bytes place = if is_resident_at place bytes then resident_at place bytes else runs_at place bytes
+unfoldable pub attribute_at : ℕ → List ℕ → Attribute (Laid (List ℕ))
+attribute_at place bytes = if is_resident_at place bytes then resident_at place bytes else runs_at place bytes
+
+-- ---- an attribute by its own bytes
+
+-- the attribute's own bytes, as many as its length says
+unfoldable pub raw_at : List ℕ → ℕ → List ℕ
+raw_at bytes place = piece_at place (length_at place bytes) bytes
+
+-- what an attribute's own bytes say
+abbrev pub attribute_of : List ℕ → Attribute (Laid (List ℕ))
+attribute_of raw = attribute_at 0 raw
 
 -- ---- what an attribute with nothing wrong keeps, in plain facts
 
@@ -150,6 +164,13 @@ pub record IsSoundAt (used place : ℕ) (bytes : List ℕ) : Type 0 where
   pub more : 24 ≤ length_at place bytes
   pub ends : place + length_at place bytes + 4 ≤ used
   pub residence : non_resident_at place bytes ≤ 1
-  pub name : 0 < name_units_at place bytes → name_offset_at place bytes + 2 * name_units_at place bytes ≤ length_at place bytes
+  pub name : 0 < name_units_at place bytes
+      → name_offset_at place bytes + 2 * name_units_at place bytes ≤ length_at place bytes
   pub resident : non_resident_at place bytes ≡ 0 → HasValue place bytes
   pub runs : non_resident_at place bytes ≡ 1 → HasRuns place bytes
+
+-- these bytes are an attribute of their own with nothing wrong, and none that ends the list
+pub record IsRaw (raw : List ℕ) : Type 0 where
+  pub long : length_at 0 raw ≡ length raw
+  pub sound : IsSoundAt (length raw + 4) 0 raw
+  pub kind : kind_at 0 raw ≢ end_kind

@@ -1,13 +1,14 @@
--- The header of a file record: its tests in their order, and the plain values that it tells (the Linux-NTFS documentation,
--- "File Record"; the order of the faults is ours).
+-- The header of a file record: its tests in their order, and the plain values that it tells (the Linux-NTFS
+-- documentation, "File Record"; the order of the faults is ours).
 use Rattle.std.specs.Prelude.{ℕ, ◌+◌, ◌*◌, ◌%◌, ◌==◌, ◌&&◌, codes, nat_eq, Bool, List, [], ◌∷◌, length, Option, Some, None, nat_le, if◌then◌else◌}
 use Rattle.std.specs.List.{starts_with}
-use Rattle.ntfs_record.specs.Layout.{array_offset_of, array_count_of, log_number_of, sequence_of, links_of, first_attribute_of, flags_of, in_use_of, allocated_of, base_of, next_instance_of, own_number_of}
-use Rattle.ntfs_record.specs.Entry.{EntryHead}
+use Rattle.ntfs_base.specs.Checks.{Check, check, first_wrong}
+use Rattle.ntfs_record.specs.Layout.{array_offset, array_count, log_number_of, sequence_of, links_of, first_attribute_of, flags_of, in_use_of, allocated_of, base_of, next_instance_of, own_number_of}
+use Rattle.ntfs_record.specs.FileRecord.{Head, HeadLayout}
 
 -- the record begins with FILE
-unfoldable pub has_magic : List ℕ → Bool
-has_magic bytes = starts_with nat_eq bytes (codes "FILE")
+unfoldable pub begins_file : List ℕ → Bool
+begins_file bytes = starts_with nat_eq bytes (codes "FILE")
 
 -- the header's first 32 bytes are there, and the bytes allocated are the length
 unfoldable pub has_size : List ℕ → Bool
@@ -21,43 +22,38 @@ has_room bytes = nat_le (in_use_of bytes) (allocated_of bytes)
 -- before the last 4 bytes in use or at them
 unfoldable pub has_first : List ℕ → Bool
 has_first bytes =
-    (first_attribute_of bytes % 8 == 0) && (nat_le (array_offset_of bytes + 2 * array_count_of bytes) (first_attribute_of bytes)
+    (first_attribute_of bytes % 8 == 0)
+    && (nat_le (array_offset bytes + 2 * array_count bytes) (first_attribute_of bytes)
     && (nat_le 0x28 (first_attribute_of bytes) && nat_le (first_attribute_of bytes + 4) (in_use_of bytes)))
 
--- a test of the header, by the number that its fault bears
-pub record Check : Type 0 where
-  pub field : ℕ
-  pub holds : Bool
-
-abbrev pub check : ℕ → Bool → Check
-check field holds = record { field = field; holds = holds }
-
--- the tests of the header, in their order
-abbrev pub header_checks : List ℕ → List Check
-header_checks bytes = check 1 (has_magic bytes) ∷ check 2 (has_size bytes) ∷ check 3 (has_room bytes) ∷ check 4 (has_first bytes) ∷ []
-
--- the first test that fails
-abbrev pub first_wrong : List Check → Option ℕ
-first_wrong [] = None
-first_wrong (line ∷ lines) = if line.holds then first_wrong lines else Some line.field
+-- the tests of the header in their order, each with the number that its fault bears
+abbrev pub header_checks : List ℕ → List (Check ℕ)
+header_checks bytes =
+    check (begins_file bytes) 1 ∷ check (has_size bytes) 2 ∷ check (has_room bytes) 3 ∷ check (has_first bytes) 4 ∷ []
 
 -- the number of what is first wrong with the header
 unfoldable pub header_fault_of : List ℕ → Option ℕ
 header_fault_of bytes = first_wrong (header_checks bytes)
 
--- the plain values of the header; a record tells its number where its update sequence array begins at 0x30 or later
-unfoldable pub head_of : List ℕ → EntryHead
+-- the plain values of the header
+unfoldable pub head_of : List ℕ → Head
 head_of bytes = record {
-  array_offset = array_offset_of bytes;
-  array_count = array_count_of bytes;
   log_number = log_number_of bytes;
   sequence = sequence_of bytes;
   links = links_of bytes;
-  first_attribute = first_attribute_of bytes;
   flags = flags_of bytes;
-  in_use = in_use_of bytes;
-  allocated = allocated_of bytes;
   base = base_of bytes;
   next_instance = next_instance_of bytes;
-  number = if nat_le 0x30 (array_offset_of bytes) then Some (own_number_of bytes) else None;
+}
+
+-- where the parts of the record stand; a record tells its number where its update sequence array begins at 0x30 or
+-- later
+unfoldable pub layout_of : List ℕ → HeadLayout
+layout_of bytes = record {
+  array_offset = array_offset bytes;
+  array_count = array_count bytes;
+  first_attribute = first_attribute_of bytes;
+  in_use = in_use_of bytes;
+  allocated = allocated_of bytes;
+  number = if nat_le 0x30 (array_offset bytes) then Some (own_number_of bytes) else None;
 }

@@ -1,7 +1,10 @@
+pub mod Face
 pub mod Layout
-pub mod Entry
-pub mod Header
 pub mod Attribute
-pub mod Parsed
+pub mod FileRecord
+pub mod Header
+pub mod Parsing
 pub mod Views
 pub mod IsRecord
+pub mod Slots
+pub mod Spelling

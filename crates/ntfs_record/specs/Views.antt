@@ -1,11 +1,13 @@
 -- What the views of a record show of it: the fields of an attribute without its offsets and its reserved bytes.
-use Rattle.std.specs.Prelude.{ℕ, ◌≤◌, ◌<◌, ◌+◌, ◌^◌, length, Bool, true, false, List, []}
+use Rattle.std.specs.Prelude.{ℕ, ◌≤◌, ◌<◌, ◌+◌, ◌^◌, length, Bool, true, false, List, [], ◌∷◌}
 use Rattle.ntfs_record.specs.declared.attribute.AttributeView.{AttributeView}
 use Rattle.ntfs_record.specs.declared.attribute.Body.{Body}
 use Rattle.ntfs_record.specs.declared.attribute.Body.TheVariants.{Resident, Runs}
-use Rattle.ntfs_record.specs.Entry.{Part}
+use Rattle.ntfs_record.specs.FileRecord.{Attribute, Laid, FileRecord}
+use Rattle.ntfs_record.specs.Attribute.{attribute_of}
 
--- what is shown of an attribute's body; of a resident one the runs' fields are 0 and empty, of another the value is empty
+-- what is shown of an attribute's body; of a resident one the runs' fields are 0 and empty, of another the value is
+-- empty
 pub record ShownBody : Type 0 where
   pub is_resident : Bool
   pub value : List ℕ
@@ -25,38 +27,81 @@ pub record Shown : Type 0 where
   pub instance : ℕ
   pub body : ShownBody
 
--- what is shown of a part's body
-abbrev pub shown_body_of : Part (List ℕ) → ShownBody
-shown_body_of part = record {
-  is_resident = part.head.is_resident;
-  value = part.head.value;
-  lowest = part.head.lowest;
-  next = part.head.next;
-  allocated = part.head.allocated;
-  size = part.head.size;
-  valid = part.head.valid;
-  pairs = part.payload;
+-- what is shown of an attribute's body
+abbrev pub shown_body_of : Attribute (Laid (List ℕ)) → ShownBody
+shown_body_of a = record {
+  is_resident = a.face.is_resident;
+  value = a.face.value;
+  lowest = a.face.lowest;
+  next = a.face.next;
+  allocated = a.face.allocated;
+  size = a.face.size;
+  valid = a.face.valid;
+  pairs = a.payload.runs;
 }
 
--- what is shown of a part
-abbrev pub shown_part : Part (List ℕ) → Shown
-shown_part part = record {
-  place = part.head.place;
-  kind = part.head.kind;
-  name = part.head.name;
-  flags = part.head.flags;
-  instance = part.head.instance;
-  body = shown_body_of part;
+-- what is shown of an attribute at a place
+abbrev pub shown_attribute : ℕ → Attribute (Laid (List ℕ)) → Shown
+shown_attribute place a = record {
+  place = place;
+  kind = a.face.kind;
+  name = a.face.name;
+  flags = a.face.flags;
+  instance = a.face.instance;
+  body = shown_body_of a;
 }
+
+-- an attribute's own bytes, and the place at which they stand in the record
+pub record Placed : Type 0 where
+  pub place : ℕ
+  pub raw : List ℕ
+
+-- attributes in a row from a place on
+abbrev pub placed_from : ℕ → List (List ℕ) → List Placed
+placed_from place [] = []
+placed_from place (raw ∷ raws) = record { place = place; raw = raw } ∷ placed_from (place + length raw) raws
+
+-- the attributes of a record, each at its place
+abbrev pub placed_of : FileRecord → List Placed
+placed_of r = placed_from r.layout.first_attribute r.raws
+
+-- what is shown of an attribute in its record
+abbrev pub shown_placed : Placed → Shown
+shown_placed p = shown_attribute p.place (attribute_of p.raw)
 
 -- what a body shows, its slices as lists
 abbrev pub shown_body : Body → ShownBody
-shown_body (Resident value) = record { is_resident = true; value = value.now; lowest = 0; next = 0; allocated = 0; size = 0; valid = 0; pairs = [] }
-shown_body (Runs lowest next allocated size valid pairs) = record { is_resident = false; value = []; lowest = lowest; next = next; allocated = allocated; size = size; valid = valid; pairs = pairs.now }
+shown_body (Resident value) = record {
+  is_resident = true;
+  value = value.now;
+  lowest = 0;
+  next = 0;
+  allocated = 0;
+  size = 0;
+  valid = 0;
+  pairs = [];
+}
+shown_body (Runs lowest next allocated size valid pairs) = record {
+  is_resident = false;
+  value = [];
+  lowest = lowest;
+  next = next;
+  allocated = allocated;
+  size = size;
+  valid = valid;
+  pairs = pairs.now;
+}
 
 -- what a view shows, its slices as lists
 abbrev pub shown_view : AttributeView → Shown
-shown_view view = record { place = view.place; kind = view.kind; name = view.name.now; flags = view.flags; instance = view.instance; body = shown_body view.body }
+shown_view view = record {
+  place = view.place;
+  kind = view.kind;
+  name = view.name.now;
+  flags = view.flags;
+  instance = view.instance;
+  body = shown_body view.body;
+}
 
 -- what is shown of an attribute is bounded: its place and its slices by the record, its VCNs by 2^48
 pub record HasBounds (shown : Shown) : Type 0 where

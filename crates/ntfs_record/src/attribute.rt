@@ -3,7 +3,7 @@
 ghost use Rattle.std.specs.Prelude.{◌≡◌, ◌+◌, ◌≤◌, ◌<◌, ◌^◌, length};
 ghost use Rattle.ntfs_record.specs.Layout as layout;
 ghost use Rattle.ntfs_record.specs.Attribute as spec;
-ghost use Rattle.ntfs_record.specs.Parsed as parsed;
+ghost use Rattle.ntfs_record.specs.Parsing as parsing;
 ghost use Rattle.ntfs_record.specs.Views as views;
 
 use crate::layout::{
@@ -82,11 +82,11 @@ fn pairs_at<'a>(bytes: &'a [u8], place: usize) -> &'a [u8]
     )
 }
 
-#[tactic(auto, unfolding(crate::specs::Attribute::part_at, crate::specs::Attribute::resident_at, crate::specs::Attribute::runs_at))]
+#[tactic(auto, unfolding(crate::specs::Attribute::attribute_at, crate::specs::Attribute::resident_at, crate::specs::Attribute::runs_at))]
 fn body_at<'a>(bytes: &'a [u8], place: usize) -> Body<'a>
     requires within { layout.in_use_of bytes.now ≤ length bytes.now }
     requires sound { spec.IsSoundAt (layout.in_use_of bytes.now) place bytes.now }
-    ensures { views.shown_body result ≡ views.shown_body_of (spec.part_at bytes.now place) }
+    ensures { views.shown_body result ≡ views.shown_body_of (spec.attribute_at place bytes.now) }
 {
     if non_resident_at(bytes, place) == 0 {
         return Body::Resident {
@@ -103,12 +103,12 @@ fn body_at<'a>(bytes: &'a [u8], place: usize) -> Body<'a>
     }
 }
 
-#[tactic(auto, unfolding(crate::specs::Attribute::part_at, crate::specs::Attribute::resident_at, crate::specs::Attribute::runs_at))]
+#[tactic(auto, unfolding(crate::specs::Attribute::attribute_at, crate::specs::Attribute::resident_at, crate::specs::Attribute::runs_at))]
 fn view_at<'a>(bytes: &'a [u8], place: usize) -> AttributeView<'a>
     requires within { layout.in_use_of bytes.now ≤ length bytes.now }
     requires sound { spec.IsSoundAt (layout.in_use_of bytes.now) place bytes.now }
     requires small { place < 2 ^ 32 }
-    ensures { views.shown_view result ≡ views.shown_part (spec.part_at bytes.now place) }
+    ensures { views.shown_view result ≡ views.shown_attribute place (spec.attribute_at place bytes.now) }
 {
     AttributeView {
         place: place as u32,
@@ -120,7 +120,8 @@ fn view_at<'a>(bytes: &'a [u8], place: usize) -> AttributeView<'a>
     }
 }
 
-/// The attributes of a file record that are left, in their order: a caller sees the list of their parts.
+/// The attributes of a file record that are left, in their order: a caller sees the list of their own bytes, each at
+/// its place.
 #[derive(Debug, Drop)]
 pub struct Attributes<'a> {
     bytes: &'a [u8],
@@ -128,21 +129,21 @@ pub struct Attributes<'a> {
 }
 
 impl<'a> Model for Attributes<'a> {
-    ghost use Rattle.std.specs.Prelude.{List, ℕ};
-    ghost use Rattle.ntfs_record.specs.Entry.{Part};
-    ghost use Rattle.ntfs_record.specs.Parsed.{parts_of, IsSoundFrom};
+    ghost use Rattle.std.specs.Prelude.{List};
+    ghost use Rattle.ntfs_record.specs.Views.{Placed, placed_from};
+    ghost use Rattle.ntfs_record.specs.Parsing.{raws_of, IsSoundFrom};
 
-    ghost Value = { List (Part (List ℕ)) };
+    ghost Value = { List Placed };
 
-    ghost view = { λ a. parts_of a.bytes.now a.place };
+    ghost view = { λ a. placed_from a.place (raws_of a.bytes.now a.place) };
 
     ghost invariant = { λ a. IsSoundFrom a.bytes.now a.place };
 }
 
 impl<'a> Attributes<'a> {
     pub(crate) fn new(bytes: &'a [u8], place: usize) -> Attributes<'a>
-        requires { parsed.IsSoundFrom bytes.now place }
-        ensures { result ≡ parsed.parts_of bytes.now place }
+        requires { parsing.IsSoundFrom bytes.now place }
+        ensures { result ≡ views.placed_from place (parsing.raws_of bytes.now place) }
     {
         Attributes { bytes, place }
     }
@@ -151,13 +152,13 @@ impl<'a> Attributes<'a> {
 impl<'a> Iterator for Attributes<'a> {
     ghost use Rattle.std.specs.Prelude.{map};
     ghost use Rattle.std.specs.Iterator.{YieldsFirstBy, item_count};
-    ghost use Rattle.ntfs_record.specs.Views.{shown_view, shown_part};
+    ghost use Rattle.ntfs_record.specs.Views.{shown_view, shown_placed};
 
     type Item = AttributeView<'a>;
 
-    ghost next_gives = { YieldsFirstBy shown_view (map shown_part) };
+    ghost next_gives = { YieldsFirstBy shown_view (map shown_placed) };
 
-    ghost remaining = { item_count (map shown_part) };
+    ghost remaining = { item_count (map shown_placed) };
 
     fn next(&mut self) -> Option<AttributeView<'a>> {
         let used = in_use_of(self.bytes) as usize;

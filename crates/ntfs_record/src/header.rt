@@ -3,11 +3,11 @@
 ghost use Rattle.std.specs.Prelude.{◌≡◌, ◌≤◌, ◌<◌, ◌^◌, length, IsTrue, IfNone};
 ghost use Rattle.ntfs_record.specs.Header as spec;
 
-use crate::layout::{allocated_of, array_count_of, array_offset_of, first_attribute_of, in_use_of};
+use crate::layout::{allocated_of, array_count, array_offset, first_attribute_of, in_use_of};
 
-#[tactic(auto, unfolding(crate::specs::Header::has_magic))]
-fn has_magic(bytes: &[u8]) -> bool
-    ensures { result ≡ spec.has_magic bytes.now }
+#[tactic(auto, unfolding(crate::specs::Header::begins_file))]
+pub(crate) fn begins_file(bytes: &[u8]) -> bool
+    ensures { result ≡ spec.begins_file bytes.now }
 {
     bytes.starts_with(b"FILE")
 }
@@ -34,12 +34,9 @@ fn has_first(bytes: &[u8]) -> bool
     requires { 32 ≤ length bytes.now }
     ensures { result ≡ spec.has_first bytes.now }
 {
-    let first = u64::from(first_attribute_of(bytes));
-    let array_end = u64::from(array_offset_of(bytes)) + 2 * u64::from(array_count_of(bytes));
-    first % 8 == 0
-        && array_end <= first
-        && 0x28 <= first
-        && first + 4 <= u64::from(in_use_of(bytes))
+    let first = usize::from(first_attribute_of(bytes));
+    let array_end = array_offset(bytes) + 2 * array_count(bytes);
+    first % 8 == 0 && array_end <= first && 0x28 <= first && first + 4 <= in_use_of(bytes) as usize
 }
 
 /// The number of the first test that fails.
@@ -48,7 +45,7 @@ pub(crate) fn header_fault_of(bytes: &[u8]) -> Option<u8>
     ensures fault { result ≡ spec.header_fault_of bytes.now }
     ensures small { IfNone result (length bytes.now < 2 ^ 32) }
 {
-    if !has_magic(bytes) {
+    if !begins_file(bytes) {
         Some(1)
     } else if !has_size(bytes) {
         Some(2)

@@ -4,7 +4,7 @@ ghost use Rattle.std.specs.Prelude.{◌≡◌, ◌+◌, ◌≤◌, ◌<◌, ◌^
 ghost use Rattle.ntfs_record.specs.Layout as layout;
 ghost use Rattle.ntfs_record.specs.Attribute as spec;
 ghost use Rattle.ntfs_record.specs.Header as header;
-ghost use Rattle.ntfs_record.specs.Parsed as parsed;
+ghost use Rattle.ntfs_record.specs.Parsing as parsing;
 
 use crate::layout::{
     first_attribute_of, highest_at, in_use_of, kind_at, length_at, lowest_at, name_offset_at,
@@ -51,10 +51,10 @@ fn has_length(bytes: &[u8], used: usize, place: usize) -> bool
         && place + length as usize + 4 <= used
 }
 
-#[tactic(auto, unfolding(crate::specs::Attribute::has_name))]
-fn has_name(bytes: &[u8], place: usize) -> bool
+#[tactic(auto, unfolding(crate::specs::Attribute::has_name_inside))]
+fn has_name_inside(bytes: &[u8], place: usize) -> bool
     requires { place + 24 ≤ length bytes.now }
-    ensures { result ≡ spec.has_name place bytes.now }
+    ensures { result ≡ spec.has_name_inside place bytes.now }
 {
     let units = u32::from(name_units_at(bytes, place));
     let name_end = u32::from(name_offset_at(bytes, place)) + 2 * units;
@@ -113,7 +113,7 @@ fn is_sound(bytes: &[u8], used: usize, place: usize) -> bool
     if !has_length(bytes, used, place) {
         return false;
     }
-    non_resident_at(bytes, place) <= 1 && has_name(bytes, place) && has_body(bytes, place)
+    non_resident_at(bytes, place) <= 1 && has_name_inside(bytes, place) && has_body(bytes, place)
 }
 
 /// Whether the list of attributes ends at a place.
@@ -133,7 +133,7 @@ fn first_unsound(bytes: &[u8], used: usize, first: usize) -> Option<usize>
     requires within { used ≤ length bytes.now }
     requires is_used { used ≡ layout.in_use_of bytes.now }
     requires small { used < 2 ^ 32 }
-    ensures unsound { result ≡ parsed.unsound_of bytes.now first }
+    ensures unsound { result ≡ parsing.unsound_of bytes.now first }
     ensures fits { IfSome result (λ place. place < 2 ^ 32) }
 {
     let mut place = first;
@@ -149,7 +149,7 @@ fn first_unsound(bytes: &[u8], used: usize, first: usize) -> Option<usize>
 /// The place of the first attribute that isn't sound.
 pub(crate) fn unsound_of(bytes: &[u8]) -> Option<u32>
     requires { header.header_fault_of bytes.now ≡ None }
-    ensures { result ≡ parsed.unsound_of bytes.now (layout.first_attribute_of bytes.now) }
+    ensures { result ≡ parsing.unsound_of bytes.now (layout.first_attribute_of bytes.now) }
 {
     let used = in_use_of(bytes) as usize;
     let first = usize::from(first_attribute_of(bytes));

@@ -1,5 +1,7 @@
 //! A record of four attributes, read whole, and each thing that can be wrong with it.
-use crate::{AttributeView, Body, RecordFault, parse};
+use crate::laws::slots_are_told;
+use crate::layout::{allocated_at, set_size_at, size_at};
+use crate::{AttributeView, Body, RecordFault, SlotView, is_in_use, parse, slot_in};
 use std::test::Fail;
 
 const LENGTH: usize = 304;
@@ -108,7 +110,7 @@ fn put(bytes: &mut [u8], patches: &[Patch]) {
 }
 
 /// The record, with some bytes changed.
-fn changed(patches: &[Patch]) -> [u8; LENGTH] {
+fn change(patches: &[Patch]) -> [u8; LENGTH] {
     let mut bytes = [0; LENGTH];
     put(&mut bytes, &HEADER);
     put(&mut bytes, &RESIDENT);
@@ -122,7 +124,7 @@ fn changed(patches: &[Patch]) -> [u8; LENGTH] {
 
 #[test]
 fn the_header_is_shown(rt: HostRuntime) -> Result<(), Fail> {
-    let bytes = changed(&[]);
+    let bytes = change(&[]);
     let record_view = parse(&bytes).ok().ok_or("a record")?;
     assert_eq!(rt; record_view.sequence(), 5);
     assert_eq!(rt; record_view.links(), 2);
@@ -136,7 +138,7 @@ fn the_header_is_shown(rt: HostRuntime) -> Result<(), Fail> {
 
 #[test]
 fn a_number_is_told_behind_a_late_array_alone(rt: HostRuntime) -> Result<(), Fail> {
-    let bytes = changed(&[(0x04, 0x2E), (0x25, 1)]);
+    let bytes = change(&[(0x04, 0x2E), (0x25, 1)]);
     let record_view = parse(&bytes).ok().ok_or("a record")?;
     assert_eq!(rt; record_view.number(), None);
     assert_eq!(rt; record_view.base(), 1 << 40);
@@ -145,7 +147,7 @@ fn a_number_is_told_behind_a_late_array_alone(rt: HostRuntime) -> Result<(), Fai
 
 #[test]
 fn the_attributes_are_shown(rt: HostRuntime) -> Result<(), Fail> {
-    let bytes = changed(&[]);
+    let bytes = change(&[]);
     let record_view = parse(&bytes).ok().ok_or("a record")?;
     let mut attributes = record_view.attributes();
     assert_eq!(rt;
@@ -232,7 +234,7 @@ const HEADER_FAULTS: [([Patch; 2], u8); 8] = [
 #[test]
 fn the_first_fault_of_the_header_is_named(rt: HostRuntime) {
     for (patches, field) in HEADER_FAULTS {
-        let bytes = changed(&patches);
+        let bytes = change(&patches);
         assert_eq!(rt;
             parse(&bytes).err(),
             Some(RecordFault::BadHeader { field }),
@@ -280,7 +282,7 @@ const ATTRIBUTE_FAULTS: [([Patch; 4], u32); 18] = [
 #[test]
 fn the_first_attribute_with_a_fault_is_named(rt: HostRuntime) {
     for (patches, place) in ATTRIBUTE_FAULTS {
-        let bytes = changed(&patches);
+        let bytes = change(&patches);
         assert_eq!(rt;
             parse(&bytes).err(),
             Some(RecordFault::BadAttribute { place }),
@@ -305,7 +307,75 @@ const EDGES: [[Patch; 2]; 6] = [
 #[test]
 fn what_is_at_its_edge_is_no_fault(rt: HostRuntime) {
     for patches in EDGES {
-        let bytes = changed(&patches);
+        let bytes = change(&patches);
         assert_eq!(rt; parse(&bytes).err(), None);
     }
+}
+
+/// The same record in two strides whose ends agree, with some bytes changed.
+fn two_strides(patches: &[Patch]) -> [u8; 1024] {
+    let mut bytes = [0; 1024];
+    put(&mut bytes, &HEADER);
+    put(&mut bytes, &RESIDENT);
+    put(&mut bytes, &NAMED);
+    put(&mut bytes, &RUNS);
+    put(&mut bytes, &EMPTY);
+    put(&mut bytes, &LAST);
+    put(&mut bytes, &[(0x1C, 0), (0x1D, 4)]);
+    put(&mut bytes, patches);
+    bytes
+}
+
+#[derive(Clone, Copy, Debug, PartialEq, Eq)]
+enum Told {
+    Idle,
+    Baad,
+    Unsound,
+    Sound { sequence: u16 },
+}
+
+fn answer_of(slot: &SlotView<'_>) -> Told {
+    match slot {
+        SlotView::Idle { is_baad } => { if *is_baad { Told::Baad } else { Told::Idle } }
+        SlotView::Unsound => Told::Unsound,
+        SlotView::Sound { view } => Told::Sound {
+            sequence: view.sequence(),
+        },
+    }
+}
+
+/// What is changed in the record, the number that it has, and what is told of it.
+const SLOTS: [([Patch; 4], u64, Told); 8] = [
+    ([(0, b'F'); 4], 16, Told::Sound { sequence: 5 }),
+    // It tells another number, or none.
+    ([(0, b'F'); 4], 17, Told::Unsound),
+    ([(0x04, 0x2E); 4], 17, Told::Sound { sequence: 5 }),
+    // It isn't in use, by its flag or by its first bytes.
+    ([(0x16, 2); 4], 16, Told::Idle),
+    ([(3, b'O'); 4], 16, Told::Idle),
+    ([(0, b'B'), (1, b'A'), (2, b'A'), (3, b'D')], 16, Told::Baad),
+    // Its first stride is torn, or its first attribute stands wrong.
+    ([(510, 1); 4], 16, Told::Unsound),
+    ([(0x14, 60); 4], 16, Told::Unsound),
+];
+
+#[test]
+fn a_record_of_a_number_is_told(rt: HostRuntime) {
+    for (patches, number, want) in SLOTS {
+        let mut raw = two_strides(&patches);
+        slots_are_told(&raw, number);
+        let live = is_in_use(&raw);
+        let slot = answer_of(&slot_in(&mut raw, number));
+        assert_eq!(rt; slot, want, "{number}");
+        assert_eq!(rt; live, want != Told::Idle && want != Told::Baad);
+    }
+}
+
+#[test]
+fn a_field_is_set_alone(rt: HostRuntime) {
+    let mut bytes = change(&[]);
+    set_size_at(&mut bytes, 128, 0x1234);
+    assert_eq!(rt; size_at(&bytes, 128), 0x1234);
+    assert_eq!(rt; allocated_at(&bytes, 128), 0x2000);
+    assert!(rt; bytes == change(&[(176, 0x34), (177, 0x12)]));
 }

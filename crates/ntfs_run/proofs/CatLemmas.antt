@@ -4,9 +4,10 @@ use Rattle.ntfs_base.specs.Frames.{must, refused_as, ◌>>=◌}
 use Rattle.ntfs_base.specs.Shelf.{Files, file_of}
 use Rattle.ntfs_base.specs.Sink.{SinkState, after_put}
 use Rattle.ntfs_base.specs.declared.refusal.Named.TheVariants as named
-use Rattle.ntfs_boot.specs.Geometry.{volume_geometry}
-use Rattle.ntfs_show.specs.Cat.{cat_outcome, geometry_fault, stream_at}
-use Rattle.ntfs_show.specs.MftMap.{mft_map, raw_record}
+use Rattle.ntfs_base.specs.Bytes.{cluster_at}
+use Rattle.ntfs_volume.specs.Opened.{opened_of}
+use Rattle.ntfs_volume.specs.Records.{read_of}
+use Rattle.ntfs_show.specs.Cat.{cat_outcome, opened_outcome, record_block, volume_refusal, stream_at}
 use Rattle.ntfs_show.specs.StreamBytes.{is_plain}
 use Rattle.ntfs_show.specs.declared.cat_fault.CatFault.{CatFault}
 use Rattle.ntfs_show.specs.declared.cat_fault.CatFault.TheVariants as fault
@@ -26,18 +27,19 @@ the_same r a b one other = cc
 
 -- what the outcome shows is the bytes of the stream
 stream_is_told : (image : List ℕ) (number : ℕ) (bytes : List ℕ) → cat_outcome image number ≡ Ok bytes → IsStreamOf image number bytes
-unfolding cat_outcome
+unfolding cat_outcome opened_outcome
 stream_is_told image number bytes is =
-    let measured = bind_ok (refused_as geometry_fault (volume_geometry image)) _ bytes is in
-    let mapped = bind_ok (mft_map measured.0 image) _ bytes measured.2 in
-    let gathered = bind_ok (stream_at measured.0 number (raw_record measured.0 mapped.0 image number)) _ bytes mapped.2 in
+    let opened = bind_ok (refused_as (volume_refusal number) (opened_of image)) _ bytes is in
+    let volume = opened.0 in
+    let held = bind_ok (record_block volume image number) _ bytes opened.2 in
+    let gathered = bind_ok (stream_at volume.geometry number held.0) _ bytes held.2 in
     let plain = bind_ok (must (is_plain gathered.0.flags) (fault.NotPlain gathered.0.flags)) _ bytes gathered.2 in
     record {
-      geometry = measured.0;
-      map = mapped.0;
+      volume = volume;
+      block = held.0;
       found = gathered.0;
-      measured = refused_ok geometry_fault (volume_geometry image) measured.0 measured.1;
-      mapped = mapped.1;
+      opened = refused_ok (volume_refusal number) (opened_of image) volume opened.1;
+      held = refused_ok (volume_refusal number) (read_of volume.geometry volume.map (cluster_at image volume.geometry.cluster) number) held.0 held.1;
       gathered = gathered.1;
       plain = must_ok (is_plain gathered.0.flags) (fault.NotPlain gathered.0.flags) plain.0 plain.1;
       whole = the_same _ _ bytes refl plain.2;

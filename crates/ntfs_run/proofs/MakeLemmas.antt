@@ -6,7 +6,7 @@ use Rattle.std.proofs.lemmas.Cmp.{nat_list_cmp_total}
 use Rattle.std.proofs.lemmas.List.{get_or-replicate, length-replicate}
 use Rattle.std.proofs.lemmas.List.FromFn.{length-map-range_with_len}
 use Rattle.std.specs.FinMap.{get, insert, get-insert, same_map, slice_cmp-IsAntisymmetric, nat_cmp-IsAntisymmetric}
-use Rattle.ntfs_base.specs.Growth.{SetLength, after_set_len, resized}
+use Rattle.ntfs_base.specs.Growth.{SetLength, after_set_len, resize_of}
 use Rattle.ntfs_base.specs.Image.{ImageState}
 use Rattle.ntfs_base.specs.Shelf.{Files, ShelfState, after_create, after_release, file_of, without}
 use Rattle.ntfs_base.specs.Writes.{byte_from}
@@ -40,7 +40,7 @@ sized false len content is empty = absurd cc
 
 -- an empty file at another length has zeros
 pub sized-content : (len : ℕ) (file : ImageState) → IsTrue file.is_told → file.content ≡ [] → (after_set_len len file).content ≡ replicate len 0
-unfolding after_set_len resized
+unfolding after_set_len resize_of
 sized-content len file told empty = sized file.is_told len file.content told empty
 
 pub sized-size : (len : ℕ) (file : ImageState) → (after_set_len len file).size ≡ len

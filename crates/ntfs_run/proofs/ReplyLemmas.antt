@@ -1,5 +1,5 @@
 -- What the answer of a tool says of the program's reply.
-use Rattle.std.proofs.Common.{◌≡◌, ◌↔◌, ℕ, Bool, true, false, List, refl, sym, ap, subst, ◌∙◌, Result, Ok, Err, Option, Some, None}
+use Rattle.std.proofs.Common.{◌≡◌, ◌↔◌, ℕ, true, List, refl, sym, ap, subst, ◌∙◌, Result, Ok, Err, Option, Some}
 use Rattle.std.proofs.Common.{IfErr, IfOk, OnOk, is_ok, inl, inr, length, arith}
 use Rattle.std.proofs.lemmas.List.{take_all}
 use Rattle.ntfs_base.specs.Causes.{SinkCause}

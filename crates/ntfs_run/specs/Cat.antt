@@ -5,12 +5,12 @@ use Rattle.ntfs_base.specs.Frames.{refused_as, ◌>>=◌}
 use Rattle.ntfs_base.specs.Shelf.{Files, file_of}
 use Rattle.ntfs_base.specs.Sink.{SinkState, after_put}
 use Rattle.ntfs_base.specs.declared.refusal.Named.TheVariants as named
-use Rattle.ntfs_boot.specs.Geometry.{volume_geometry}
-use Rattle.ntfs_boot.specs.declared.geometry.Geometry.{Geometry}
+use Rattle.ntfs_base.specs.Bytes.{cluster_at}
+use Rattle.ntfs_volume.specs.Opened.{Opened, opened_of}
+use Rattle.ntfs_volume.specs.Records.{read_of}
 use Rattle.ntfs_show.specs.Cat.{cat_outcome, filled_stream, stream_at}
 use Rattle.ntfs_show.specs.Gather.{Stream}
-use Rattle.ntfs_show.specs.MftMap.{Map, mft_map, raw_record}
-use Rattle.ntfs_show.specs.StreamBytes.{is_plain, stream_bytes}
+use Rattle.ntfs_show.specs.StreamBytes.{is_plain, bytes_of_stream}
 use Rattle.ntfs_show.specs.declared.cat_fault.CatFault.{CatFault}
 use Rattle.ntfs_show.specs.declared.cat_fault.CatFault.TheVariants as cat
 use Rattle.ntfs_run.specs.declared.status.Status.{Status}
@@ -48,18 +48,18 @@ CatRefuses status.WriteFault = Unit {0}
 CatRefuses status.NoMemory = Unit {0}
 CatRefuses other = ⊥
 
--- the bytes of the unnamed data stream of a record of an image: $MFT's map has the record's bytes, these tell a plain
--- stream, and its bytes are those of its clusters, with zeros in holes and from the initialised size on (the Linux-NTFS
--- documentation, "Attributes" and "$DATA")
+-- the bytes of the unnamed data stream of a record of an image: the volume opens, $MFT's map has the record's bytes,
+-- these, unfixed, tell a plain stream, and its bytes are those of its clusters, with zeros in holes and from the
+-- initialised size on (the Linux-NTFS documentation, "Attributes" and "$DATA")
 pub record IsStreamOf (image : List ℕ) (number : ℕ) (bytes : List ℕ) : Type 0 where
-  pub geometry : Geometry
-  pub map : Map
+  pub volume : Opened
+  pub block : List ℕ
   pub found : Stream ℕ
-  pub measured : volume_geometry image ≡ Ok geometry
-  pub mapped : mft_map geometry image ≡ Ok map
-  pub gathered : stream_at geometry number (raw_record geometry map image number) ≡ Ok found
+  pub opened : opened_of image ≡ Ok volume
+  pub held : read_of volume.geometry volume.map (cluster_at image volume.geometry.cluster) number ≡ Ok block
+  pub gathered : stream_at volume.geometry number block ≡ Ok found
   pub plain : is_plain found.flags ≡ true
-  pub whole : bytes ≡ stream_bytes geometry.cluster (filled_stream geometry image found)
+  pub whole : bytes ≡ bytes_of_stream volume.geometry.cluster (filled_stream volume.geometry image found)
 
 -- the bytes of the stream of a record of the image of a name were put
 pub record PutsStream (name : List ℕ) (number : ℕ) (files : Files) (old new : SinkState) : Type 0 where

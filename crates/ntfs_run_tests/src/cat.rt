@@ -304,7 +304,15 @@ const SHORT_FIRST: Record = Record {
     ..FIRST
 };
 
-/// Record 0 has an attribute list.
+/// Where the clusters of $MFT lie.
+const TABLE: Attribute = Attribute::Runs {
+    clusters: 32,
+    size: 32_768,
+    valid: 32_768,
+    pairs: &[0x11, 0x20, 0x04, 0],
+};
+
+/// Record 0 has an attribute list without entries.
 const LISTED_FIRST: Record = Record {
     attributes: &[
         Attribute::Resident {
@@ -312,15 +320,41 @@ const LISTED_FIRST: Record = Record {
             flags: 0,
             value: b"",
         },
-        Attribute::Runs {
-            clusters: 32,
-            size: 32_768,
-            valid: 32_768,
-            pairs: &[0x11, 0x20, 0x04, 0],
-        },
+        TABLE,
     ],
     ..FIRST
 };
+
+/// Record 0 has an attribute list in which an entry is cut off.
+const CUT_FIRST: Record = Record {
+    attributes: &[
+        Attribute::Resident {
+            kind: LIST,
+            flags: 0,
+            value: b"\x80\0\0\0\x20\0",
+        },
+        TABLE,
+    ],
+    ..FIRST
+};
+
+#[test]
+fn a_record_0_with_a_list_has_a_map(rt: HostRuntime) -> Result<(), Fail> {
+    let alloc = rt.alloc();
+    let image = Image::of(SMALL_LEN).with_records(&[LISTED_FIRST, TEXT]);
+    let cases = [
+        Case::puts(&TWENTY, image, b"text"),
+        Case::refuses(
+            &["ntfscat", "-i", "0", "v"],
+            image,
+            damage_of(Rule::C11, 0),
+            4,
+            "ntfscat: damaged: rule C11 record 0\n",
+        ),
+    ];
+    let base = bare_volume(alloc).ok_or("no image")?;
+    all_answer(&rt, alloc, &base, &cases)
+}
 
 #[test]
 fn volumes_without_a_map_are_refused(rt: HostRuntime) -> Result<(), Fail> {
@@ -340,7 +374,7 @@ fn volumes_without_a_map_are_refused(rt: HostRuntime) -> Result<(), Fail> {
         c3.with_image(image.with_records(&[BLANK_FIRST])),
         c3.with_image(image.with_records(&[HOLE_FIRST])),
         c3.with_image(image.with_records(&[SHORT_FIRST])),
-        c3.with_image(image.with_records(&[LISTED_FIRST])),
+        c3.with_image(image.with_records(&[CUT_FIRST])),
     ];
     let base = bare_volume(alloc).ok_or("no image")?;
     all_answer(&rt, alloc, &base, &cases)

@@ -10,6 +10,10 @@ mod faults;
 #[cfg(test)]
 mod info;
 #[cfg(test)]
+mod large;
+#[cfg(test)]
+mod made;
+#[cfg(test)]
 mod make;
 #[cfg(test)]
 mod memory;

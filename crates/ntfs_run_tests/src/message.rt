@@ -1,7 +1,7 @@
 //! The message line of each status.
 use crate::statuses::{
-    LINE, NO_IMAGE, NUMBER, TOOL, bad_geometry, damage_of, guarded, image_short, no_geometry,
-    no_record, not_plain,
+    LINE, NO_IMAGE, NUMBER, TOOL, bad_geometry, damage_of, guarded_refusal, image_short,
+    no_geometry, no_record, not_plain,
 };
 use ntfs_base::{Lack, MemSink, Missing, Named, Rule, UsageKind};
 use ntfs_run::{Request, Status, Tool, put_message};
@@ -159,10 +159,18 @@ fn streams_that_are_refused_have_their_texts(rt: HostRuntime) -> Result<(), Fail
     let rows = [
         (not_plain(1), 8, "stream is not plain: flags 0x0001"),
         (not_plain(0x4000), 8, "stream is not plain: flags 0x4000"),
-        (guarded(0, 0x80), 8, "record 0 type 0x80 may not be written"),
-        (guarded(0, 0), 8, "record 0 type 0x0 may not be written"),
         (
-            guarded(7, 0xDEAD_BEEF),
+            guarded_refusal(0, 0x80),
+            8,
+            "record 0 type 0x80 may not be written",
+        ),
+        (
+            guarded_refusal(0, 0),
+            8,
+            "record 0 type 0x0 may not be written",
+        ),
+        (
+            guarded_refusal(7, 0xDEAD_BEEF),
             8,
             "record 7 type 0xdeadbeef may not be written",
         ),

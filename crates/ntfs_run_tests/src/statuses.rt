@@ -42,7 +42,7 @@ pub fn not_plain(flags: u16) -> Status {
     Status::NotPlain { flags }
 }
 
-pub fn guarded(number: u64, kind: u32) -> Status {
+pub fn guarded_refusal(number: u64, kind: u32) -> Status {
     Status::Guarded { number, kind }
 }
 

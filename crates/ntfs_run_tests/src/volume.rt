@@ -218,25 +218,30 @@ fn patch_from(image: &mut [u8], from: usize, patches: &[Patch]) -> Option<()> {
 }
 
 /// Writes a record of the small volume, in place of what stands there.
-fn write_record(image: &mut [u8], record: &Record) -> Option<()> {
-    let at = (record.number as usize)
+fn write_record(image: &mut [u8], file_record: &Record) -> Option<()> {
+    let at = (file_record.number as usize)
         .saturating_add(4)
         .saturating_mul(1024);
     put(image, at, &[0; 1024])?;
     let mut end = at.saturating_add(0x38);
-    for attribute in record.attributes {
+    for attribute in file_record.attributes {
         end = write_attribute(image, end, attribute)?;
     }
     put(image, end, &[0xFF, 0xFF, 0xFF, 0xFF])?;
-    write_head(image, at, record, end.saturating_sub(at).saturating_add(8))
+    write_head(
+        image,
+        at,
+        file_record,
+        end.saturating_sub(at).saturating_add(8),
+    )
 }
 
 /// Writes the head of a record with so many bytes in use, and the check words at the ends of its sectors.
-fn write_head(image: &mut [u8], at: usize, record: &Record, in_use: usize) -> Option<()> {
-    let flags = record.flags.to_le_bytes();
+fn write_head(image: &mut [u8], at: usize, file_record: &Record, in_use: usize) -> Option<()> {
+    let flags = file_record.flags.to_le_bytes();
     let count = (in_use as u64).to_le_bytes();
-    let base = record.base.to_le_bytes();
-    let number = record.number.to_le_bytes();
+    let base = file_record.base.to_le_bytes();
+    let number = file_record.number.to_le_bytes();
     patch_from(
         image,
         at,

@@ -6,7 +6,7 @@ use Rattle.std.proofs.lemmas.Bool.Decides.{nat_tests}
 use Rattle.std.proofs.lemmas.Int.{ints}
 use Rattle.ntfs_runs.specs.declared.front.Front.TheVariants.{Closing, Wrong}
 use Rattle.ntfs_runs.specs.Number.{signed, between}
-use Rattle.ntfs_runs.specs.Spelling.{IsWrong, HasCause, IsCaused}
+use Rattle.ntfs_runs.specs.Spelling.{IsWrongHeader, HasPairCause, IsCaused}
 use Rattle.ntfs_runs.specs.Reading.{length_in, lcn_in, front_of, has_sizes, pair_in, front_at}
 use Rattle.ntfs_runs.proofs.NumberLemmas.{between-pos, between-low, between-high}
 use Rattle.ntfs_runs.proofs.FrontLemmas.{chosen, SizesAreRight, sizes-right, right-sizes}
@@ -59,7 +59,7 @@ none-lcn_in last zero bytes (some, cause) = absurd (omega arith)
 none-lcn_in last (suc m) bytes (some, cause) = ap (option_map Some) (none-between 0 (2 ^ 48) (pos last +ℤ signed (suc m) bytes) (omega arith) cause)
 
 -- a pair that is read as wrong has a cause
-cause-of : (last room n m : ℕ) (rest : List ℕ) → pair_in last room n m rest ≡ Wrong → HasCause last room n m rest
+cause-of : (last room n m : ℕ) (rest : List ℕ) → pair_in last room n m rest ≡ Wrong → HasPairCause last room n m rest
 unfolding pair_in
 cause-of last room n m rest e =
     elim (cases_lt 0 n) [
@@ -86,7 +86,7 @@ cause-of last room n m rest e =
     ]
 
 -- a pair that has a cause is read as wrong
-wrong-of : (last room n m : ℕ) (rest : List ℕ) → HasCause last room n m rest → pair_in last room n m rest ≡ Wrong
+wrong-of : (last room n m : ℕ) (rest : List ℕ) → HasPairCause last room n m rest → pair_in last room n m rest ≡ Wrong
 unfolding pair_in
 wrong-of last room n m rest cause = of (has_sizes n m (length rest)) refl
   where
@@ -104,7 +104,7 @@ wrong-of last room n m rest cause = of (has_sizes n m (length rest)) refl
           | inr (inr (inr (inr (inr (inr lcn))))) ↦ wrong-front_of (1 + n + m) (length_in room n rest) (lcn_in last m (drop n rest)) (inr (none-lcn_in last m (drop n rest) lcn))
         ]
 
-pub wrong-caused : (last room : ℕ) (bytes : List ℕ) → IsWrong last room bytes → IsCaused last room bytes
+pub wrong-caused : (last room : ℕ) (bytes : List ℕ) → IsWrongHeader last room bytes → IsCaused last room bytes
 unfolding front_at
 wrong-caused last room [] wrong = tt
 wrong-caused last room (header ∷ rest) wrong =
@@ -113,7 +113,7 @@ wrong-caused last room (header ∷ rest) wrong =
       | inr (test, gives) ↦ (eqb-false header 0 test, cause-of last room (header % 16) (header / 16) rest gives)
     ]
 
-pub caused-wrong : (last room : ℕ) (bytes : List ℕ) → IsCaused last room bytes → IsWrong last room bytes
+pub caused-wrong : (last room : ℕ) (bytes : List ℕ) → IsCaused last room bytes → IsWrongHeader last room bytes
 unfolding front_at
 caused-wrong last room [] caused = wrong-is last room [] refl
 caused-wrong last room (header ∷ rest) (some, cause) =

@@ -10,7 +10,7 @@ use Rattle.ntfs_runs.specs.declared.fault.PairsFault.TheVariants as faults
 use Rattle.ntfs_runs.specs.Clusters.{FitFrom, AreSpellable, AreWithin}
 use Rattle.ntfs_runs.specs.Spelling.{PairsFrom, Spells, SpelledInFront, IsPlace, IsWrongAfter, last_after}
 use Rattle.ntfs_runs.specs.Reading.{Reading, reading, items, with_fault}
-use Rattle.ntfs_runs.specs.Decoding.{IsUnlessNoMemory, Gives}
+use Rattle.ntfs_runs.specs.Decoding.{IsUnlessNoMemory, GivesReading}
 use Rattle.ntfs_runs.proofs.ReadingLemmas.{read_as, right-is-spelled, spelled-is-right, wrong-is-first, first-is-wrong}
 
 abbrev ending : Bool → ℕ → List (Result Run BadPairs)
@@ -94,34 +94,34 @@ gives-fault runs fault left read e =
     let wrong = one-fault read.runs runs read.is_right read.place fault left (sym e) in
     (wrong.0, sym wrong.2)
 
-pub gives-found : (bytes : List ℕ) (r : Result (List Run) PairsFault) → Gives r (reading bytes) → IfOk r (λ list. SpelledInFront bytes list)
+pub gives-found : (bytes : List ℕ) (r : Result (List Run) PairsFault) → GivesReading r (reading bytes) → IfOk r (λ list. SpelledInFront bytes list)
 gives-found bytes (Ok list) gives = subst (λ (l : List Run). SpelledInFront bytes l) (sym gives.1) (right-is-spelled bytes gives.0)
 gives-found bytes (Err fault) gives = tt
 
 -- an answer where reading gave this
-of-reading : (r : Result (List Run) PairsFault) (runs : List Run) (place : ℕ) → Gives r (read_as runs true place) → IsUnlessNoMemory r (Ok runs)
+of-reading : (r : Result (List Run) PairsFault) (runs : List Run) (place : ℕ) → GivesReading r (read_as runs true place) → IsUnlessNoMemory r (Ok runs)
 of-reading (Ok list) runs place gives = inl (ap Ok gives.1)
 of-reading (Err (faults.BadPairs at)) runs place gives = absurd cc
 of-reading (Err faults.NoMemory) runs place gives = inr refl
 
-of-fault : (r : Result (List Run) PairsFault) (runs : List Run) (place : ℕ) → Gives r (read_as runs false place) → IsUnlessNoMemory r (Err (faults.BadPairs place))
+of-fault : (r : Result (List Run) PairsFault) (runs : List Run) (place : ℕ) → GivesReading r (read_as runs false place) → IsUnlessNoMemory r (Err (faults.BadPairs place))
 of-fault (Ok list) runs place gives = absurd cc
 of-fault (Err (faults.BadPairs at)) runs place gives = let same = gives.1 in inl (ap (λ (p : ℕ). Err (faults.BadPairs p)) same)
 of-fault (Err faults.NoMemory) runs place gives = inr refl
 
-pub gives-only : (bytes : List ℕ) (r : Result (List Run) PairsFault) → Gives r (reading bytes) → (runs : List Run) → SpelledInFront bytes runs → IsUnlessNoMemory r (Ok runs)
+pub gives-only : (bytes : List ℕ) (r : Result (List Run) PairsFault) → GivesReading r (reading bytes) → (runs : List Run) → SpelledInFront bytes runs → IsUnlessNoMemory r (Ok runs)
 unfolding SpelledInFront
 gives-only bytes r gives runs (text, more, bytes-is, spells) =
     let read = spelled-is-right text more runs spells in
-    of-reading r runs read.0 (subst (λ (x : Reading). Gives r x) (ap reading bytes-is ∙ read.2) gives)
+    of-reading r runs read.0 (subst (λ (x : Reading). GivesReading r x) (ap reading bytes-is ∙ read.2) gives)
 
-pub gives-bad : (bytes : List ℕ) (r : Result (List Run) PairsFault) → Gives r (reading bytes) → (place : ℕ) → r ≡ Err (faults.BadPairs place) → (runs : List Run) × IsWrongAfter bytes runs place
+pub gives-bad : (bytes : List ℕ) (r : Result (List Run) PairsFault) → GivesReading r (reading bytes) → (place : ℕ) → r ≡ Err (faults.BadPairs place) → (runs : List Run) × IsWrongAfter bytes runs place
 gives-bad bytes r gives place is =
-    let told : Gives (Err (faults.BadPairs place)) (reading bytes) = subst (λ (x : Result (List Run) PairsFault). Gives x (reading bytes)) is gives in
+    let told : GivesReading (Err (faults.BadPairs place)) (reading bytes) = subst (λ (x : Result (List Run) PairsFault). GivesReading x (reading bytes)) is gives in
     ((reading bytes).runs, subst (λ (p : ℕ). IsWrongAfter bytes (reading bytes).runs p) (sym told.1) (wrong-is-first bytes told.0))
 
-pub gives-first : (bytes : List ℕ) (r : Result (List Run) PairsFault) → Gives r (reading bytes) → (runs : List Run) (place : ℕ) → IsWrongAfter bytes runs place → IsUnlessNoMemory r (Err (faults.BadPairs place))
-gives-first bytes r gives runs place is = of-fault r runs place (subst (λ (x : Reading). Gives r x) (first-is-wrong bytes runs place is) gives)
+pub gives-first : (bytes : List ℕ) (r : Result (List Run) PairsFault) → GivesReading r (reading bytes) → (runs : List Run) (place : ℕ) → IsWrongAfter bytes runs place → IsUnlessNoMemory r (Err (faults.BadPairs place))
+gives-first bytes r gives runs place is = of-fault r runs place (subst (λ (x : Reading). GivesReading r x) (first-is-wrong bytes runs place is) gives)
 
 -- runs that are spelled can be spelled
 place-fits : (last : ℕ) (delta : List ℕ) (lcn : Option ℕ) → IsPlace last delta lcn → IfSome lcn (λ l. l ≤ 2 ^ 48)
@@ -148,10 +148,10 @@ fit-within room [] most fits = tt
 fit-within room (run ∷ runs) most fits =
     (some-within run.lcn run.length fits.2 (omega (arith, fits.1)), fit-within (room - run.length) runs (omega arith) fits.3)
 
-pub gives-spellable : (bytes : List ℕ) (r : Result (List Run) PairsFault) → Gives r (reading bytes) → IfOk r (λ list. AreSpellable list)
+pub gives-spellable : (bytes : List ℕ) (r : Result (List Run) PairsFault) → GivesReading r (reading bytes) → IfOk r (λ list. AreSpellable list)
 gives-spellable bytes (Ok list) gives = spelled-fits bytes list (gives-found bytes (Ok list) gives)
 gives-spellable bytes (Err fault) gives = tt
 
-pub gives-within : (bytes : List ℕ) (r : Result (List Run) PairsFault) → Gives r (reading bytes) → IfOk r (λ list. AreWithin list)
+pub gives-within : (bytes : List ℕ) (r : Result (List Run) PairsFault) → GivesReading r (reading bytes) → IfOk r (λ list. AreWithin list)
 gives-within bytes (Ok list) gives = fit-within (2 ^ 48) list (omega arith) (gives-spellable bytes (Ok list) gives)
 gives-within bytes (Err fault) gives = tt

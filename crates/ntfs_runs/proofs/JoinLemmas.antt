@@ -5,7 +5,7 @@ use Rattle.std.proofs.lemmas.Bool.{eqb-true}
 use Rattle.std.proofs.lemmas.Bool.Decides.{nat_tests}
 use Rattle.ntfs_runs.specs.declared.run.Run.{Run}
 use Rattle.ntfs_runs.specs.Clusters.{behind, row, vcns, FitFrom}
-use Rattle.ntfs_runs.specs.Canon.{same_cell, goes_on, both, in_front, runs_of, AreApart}
+use Rattle.ntfs_runs.specs.Canon.{same_cell, goes_on, both, in_front, runs_of, AreMaximal}
 use Rattle.ntfs_runs.specs.Writing.{join_onto, joined_from}
 use Rattle.ntfs_runs.proofs.ClustersLemmas.{behind-behind}
 
@@ -85,7 +85,7 @@ joined_from-is room [] fits = refl
 joined_from-is room (run ∷ runs) fits = join_onto-is run (room - run.length) runs fits.3 ∙ sym (runs_of-vcns run runs fits.0)
 
 -- runs of which no neighbours can be joined are the longest already
-pub runs_of-apart : (room : ℕ) (runs : List Run) → FitFrom room runs → AreApart runs → runs_of (vcns runs) ≡ runs
+pub runs_of-apart : (room : ℕ) (runs : List Run) → FitFrom room runs → AreMaximal runs → runs_of (vcns runs) ≡ runs
 unfolding runs_of vcns
 runs_of-apart room [] fits apart = refl
 runs_of-apart room (run ∷ []) fits apart = runs_of-vcns run [] fits.0

@@ -12,8 +12,9 @@ use Rattle.ntfs_runs.specs.declared.run.Run.{Run}
 use Rattle.ntfs_runs.specs.Number.{signed, reach, shortest}
 use Rattle.ntfs_runs.specs.Clusters.{behind, row, vcns, FitFrom}
 use Rattle.ntfs_runs.specs.Spelling.{pair, IsPair, IsPlace, PairsFrom, Spells, SpelledInFront, last_after}
-use Rattle.ntfs_runs.specs.Reading.{Reading, reading, Cells, cells_of}
-use Rattle.ntfs_runs.specs.Canon.{goes_on, both, in_front, runs_of, AreApart, delta_text, run_text, text_from, canon, AreCells}
+use Rattle.ntfs_runs.specs.Reading.{Reading, reading}
+use Rattle.ntfs_runs.specs.Cells.{Cells, cells_of}
+use Rattle.ntfs_runs.specs.Canon.{goes_on, both, in_front, runs_of, AreMaximal, delta_text, run_text, text_from, canon, AreCells}
 use Rattle.ntfs_runs.proofs.ReadingLemmas.{read_as, spelled-is-right, right-is-spelled}
 use Rattle.ntfs_runs.proofs.ItemsLemmas.{spelled-fits}
 use Rattle.ntfs_runs.proofs.ClustersLemmas.{behind-zero, behind-behind}
@@ -82,23 +83,23 @@ runs_of-fits room [] within low = tt
 runs_of-fits room (cell ∷ cells) within low =
     FitFrom-in_front room (run_with 1 cell) (runs_of cells) (omega arith) (omega arith) low.0 (runs_of-fits (room - 1) cells (omega arith) low.1)
 
-AreApart-in_front : (run : Run) (runs : List Run) → AreApart runs → AreApart (in_front run runs)
-AreApart-in_front run [] apart = tt
-AreApart-in_front run (next ∷ []) apart = of (goes_on run next) refl
+AreMaximal-in_front : (run : Run) (runs : List Run) → AreMaximal runs → AreMaximal (in_front run runs)
+AreMaximal-in_front run [] apart = tt
+AreMaximal-in_front run (next ∷ []) apart = of (goes_on run next) refl
   where
-    of : (t : Bool) → goes_on run next ≡ t → AreApart (cond t (both run next ∷ []) (run ∷ next ∷ []))
+    of : (t : Bool) → goes_on run next ≡ t → AreMaximal (cond t (both run next ∷ []) (run ∷ next ∷ []))
     of true is = tt
     of false is = (is, tt)
-AreApart-in_front run (next ∷ last ∷ runs) apart = of (goes_on run next) refl
+AreMaximal-in_front run (next ∷ last ∷ runs) apart = of (goes_on run next) refl
   where
-    of : (t : Bool) → goes_on run next ≡ t → AreApart (cond t (both run next ∷ last ∷ runs) (run ∷ next ∷ last ∷ runs))
+    of : (t : Bool) → goes_on run next ≡ t → AreMaximal (cond t (both run next ∷ last ∷ runs) (run ∷ next ∷ last ∷ runs))
     of true is = (goes_on-both run next last is ∙ apart.0, apart.1)
     of false is = (is, apart)
 
-pub runs_of-AreApart : (cells : List (Option ℕ)) → AreApart (runs_of cells)
+pub runs_of-AreMaximal : (cells : List (Option ℕ)) → AreMaximal (runs_of cells)
 unfolding runs_of
-runs_of-AreApart [] = tt
-runs_of-AreApart (cell ∷ cells) = AreApart-in_front (run_with 1 cell) (runs_of cells) (runs_of-AreApart cells)
+runs_of-AreMaximal [] = tt
+runs_of-AreMaximal (cell ∷ cells) = AreMaximal-in_front (run_with 1 cell) (runs_of cells) (runs_of-AreMaximal cells)
 
 -- ---- the canonical spelling
 
@@ -225,7 +226,7 @@ text-least last room pairs (run ∷ runs) (count, delta, rest, pairs-are, is, ot
     let behind = text-least (last_after last run.lcn) (room - run.length) rest runs others (Bytes-right (pair count delta) rest bytes) in
     omega (arith, ap length pairs-are, length-append (pair count delta) rest, length-append (run_text last run) (text_from (last_after last run.lcn) runs))
 
-pub canon-least : (text : List ℕ) (runs : List Run) → Bytes text → Spells text runs → AreApart runs → length (canon (vcns runs)) ≤ length text
+pub canon-least : (text : List ℕ) (runs : List Run) → Bytes text → Spells text runs → AreMaximal runs → length (canon (vcns runs)) ≤ length text
 unfolding Spells canon SpelledInFront
 canon-least text runs are (pairs, text-is, is) apart =
     let fits = spelled-fits text runs (text, [], sym (append-nil text), (pairs, text-is, is)) in
@@ -236,7 +237,7 @@ canon-least text runs are (pairs, text-is, is) apart =
 
 -- ---- pairs as cells
 
-abbrev pub cells_with : Bool → List (Option ℕ) → Cells
+abbrev pub cells_with : Bool → List (Option ℕ) → Cells ℕ
 cells_with is_right cells = record { is_right = is_right; cells = cells }
 
 pub cells-spelled : (bytes : List ℕ) (runs : List Run) → SpelledInFront bytes runs → cells_of bytes ≡ cells_with true (vcns runs)
@@ -252,3 +253,9 @@ cells-right bytes right = ((reading bytes).runs, right-is-spelled bytes right, a
 pub cells-wrong : (bytes : List ℕ) → (cells_of bytes).is_right ≡ false → (cells_of bytes).cells ≡ []
 unfolding cells_of
 cells-wrong bytes wrong = ap (λ (t : Bool). cond t (vcns (reading bytes).runs) []) wrong
+
+-- the canonical spelling of cells, whatever stands behind it
+pub canon-read : (cells : List (Option ℕ)) (more : List ℕ) → AreCells cells → cells_of (canon cells ++ more) ≡ cells_with true cells
+unfolding SpelledInFront
+canon-read cells more are =
+    cells-spelled (canon cells ++ more) (runs_of cells) (canon cells, more, refl, canon-spells cells are) ∙ ap (cells_with true) (vcns-runs_of cells)

@@ -5,8 +5,8 @@ use Rattle.std.proofs.lemmas.List.{drop_at, length-drop}
 use Rattle.ntfs_runs.specs.declared.run.Run.{Run}
 use Rattle.ntfs_runs.specs.declared.front.Front.{Front}
 use Rattle.ntfs_runs.specs.declared.front.Front.TheVariants.{Closing, Wrong, Pair}
-use Rattle.ntfs_runs.specs.Spelling.{pair, PairsFrom, Spells, SpelledInFront, last_after, last_of, room_of, IsWrong, IsWrongAfter}
-use Rattle.ntfs_runs.specs.Reading.{front_at, Reading, with_run, reading_from, reading, items, items_from}
+use Rattle.ntfs_runs.specs.Spelling.{pair, PairsFrom, Spells, SpelledInFront, last_after, last_of, room_of, IsWrongHeader, IsWrongAfter}
+use Rattle.ntfs_runs.specs.Reading.{front_at, Reading, with_run, reading_from, reading, items, items_left}
 use Rattle.ntfs_runs.proofs.FrontLemmas.{HasPair, front-pair, front-closing, closing-front, pair-front}
 
 -- the bytes of a pair before are passed
@@ -73,7 +73,7 @@ pairs-read last room place front rest (run ∷ runs) (count, delta, behind, fron
 -- how reading ended: at a closing 0 or at a wrong header
 abbrev pub Ends : Bool → ℕ → ℕ → List ℕ → Type 0
 Ends true last room rest = (more : List ℕ) × (rest ≡ 0 ∷ more)
-Ends false last room rest = IsWrong last room rest
+Ends false last room rest = IsWrongHeader last room rest
 
 -- what reading gave stands in the bytes
 pub record IsReading (last room place : ℕ) (bytes : List ℕ) (read : Reading) : Type 0 where
@@ -85,15 +85,15 @@ pub record IsReading (last room place : ℕ) (bytes : List ℕ) (read : Reading)
   pub ends : Ends read.is_right (last_of last read.runs) (room_of room read.runs) rest
 
 -- a header that is read as wrong is neither the closing 0 nor a pair's, and the other way round
-pub wrong-is : (last room : ℕ) (bytes : List ℕ) → front_at last room bytes ≡ Wrong → IsWrong last room bytes
-unfolding IsWrong
+pub wrong-is : (last room : ℕ) (bytes : List ℕ) → front_at last room bytes ≡ Wrong → IsWrongHeader last room bytes
+unfolding IsWrongHeader
 wrong-is last room bytes is = (
   (λ more e. let closing = closing-front last room more in let here = ap (front_at last room) e in cc),
   (λ run count delta more pair-is e. let reads = pair-front last room count delta more run pair-is in let here = ap (front_at last room) e in cc),
 )
 
-pub is-wrong : (last room : ℕ) (bytes : List ℕ) → IsWrong last room bytes → front_at last room bytes ≡ Wrong
-unfolding IsWrong
+pub is-wrong : (last room : ℕ) (bytes : List ℕ) → IsWrongHeader last room bytes → front_at last room bytes ≡ Wrong
+unfolding IsWrongHeader
 is-wrong last room bytes wrong = of (front_at last room bytes) refl
   where
     of : (f : Front) → front_at last room bytes ≡ f → front_at last room bytes ≡ Wrong
@@ -193,10 +193,10 @@ first-is-wrong bytes runs place (front, rest, bytes-is, place-is, pairs, wrong) 
 
 -- ---- one step of an iterator
 
-pub step-closing : (last room place : ℕ) (bytes : List ℕ) → front_at last room bytes ≡ Closing → items_from false last room place bytes ≡ []
+pub step-closing : (last room place : ℕ) (bytes : List ℕ) → front_at last room bytes ≡ Closing → items_left false last room place bytes ≡ []
 step-closing last room place bytes is = ap items (reading-closing last room place bytes is)
 
-pub step-wrong : (last room place : ℕ) (bytes : List ℕ) → front_at last room bytes ≡ Wrong → items_from false last room place bytes ≡ Err (record { place = place }) ∷ []
+pub step-wrong : (last room place : ℕ) (bytes : List ℕ) → front_at last room bytes ≡ Wrong → items_left false last room place bytes ≡ Err (record { place = place }) ∷ []
 step-wrong last room place bytes is = ap items (reading-wrong last room place bytes is)
 
 pub last_after-unwrap_or : (last : ℕ) (lcn : Option ℕ) → last_after last lcn ≡ unwrap_or lcn last
@@ -204,9 +204,9 @@ last_after-unwrap_or last None = refl
 last_after-unwrap_or last (Some lcn) = refl
 
 pub step-pair : (last room place : ℕ) (bytes : List ℕ) (run : Run) (size : ℕ) → front_at last room bytes ≡ Pair run size
-    → items_from false last room place bytes ≡ Ok run ∷ items_from false (unwrap_or run.lcn last) (room - run.length) (place + size) (drop size bytes)
+    → items_left false last room place bytes ≡ Ok run ∷ items_left false (unwrap_or run.lcn last) (room - run.length) (place + size) (drop size bytes)
 step-pair last room place bytes run size is =
-    ap items (reading-pair last room place bytes run size is) ∙ ap (λ (n : ℕ). Ok run ∷ items_from false n (room - run.length) (place + size) (drop size bytes)) (last_after-unwrap_or last run.lcn)
+    ap items (reading-pair last room place bytes run size is) ∙ ap (λ (n : ℕ). Ok run ∷ items_left false n (room - run.length) (place + size) (drop size bytes)) (last_after-unwrap_or last run.lcn)
 
 -- what a step needs
 pub front-fits : (last room : ℕ) (bytes : List ℕ) (run : Run) (size : ℕ) → front_at last room bytes ≡ Pair run size → (size ≤ length bytes) × (run.length ≤ room)

@@ -26,16 +26,17 @@ abbrev pub in_front : Run → List Run → List Run
 in_front run [] = run ∷ []
 in_front run (next ∷ runs) = if goes_on run next then both run next ∷ runs else run ∷ next ∷ runs
 
--- the longest runs of the cells, of which no two neighbours can be joined: each cell is a run of one in front of the others
+-- the longest runs of the cells, of which no two neighbours can be joined: each cell is a run of one in front of the
+-- others
 unfoldable pub runs_of : List (Option ℕ) → List Run
 runs_of [] = []
 runs_of (cell ∷ cells) = in_front (record { length = 1; lcn = cell }) (runs_of cells)
 
 -- no two neighbours can be joined
-abbrev pub AreApart : List Run → Type 0
-AreApart [] = Unit {0}
-AreApart (run ∷ []) = Unit {0}
-AreApart (run ∷ next ∷ runs) = (goes_on run next ≡ false) × AreApart (next ∷ runs)
+abbrev pub AreMaximal : List Run → Type 0
+AreMaximal [] = Unit {0}
+AreMaximal (run ∷ []) = Unit {0}
+AreMaximal (run ∷ next ∷ runs) = (goes_on run next ≡ false) × AreMaximal (next ∷ runs)
 
 -- the shortest delta of an LCN behind the last one; a hole has none
 abbrev pub delta_text : ℕ → Option ℕ → List ℕ
@@ -51,8 +52,8 @@ unfoldable pub text_from : ℕ → List Run → List ℕ
 text_from last [] = 0 ∷ []
 text_from last (run ∷ runs) = run_text last run ++ text_from (last_after last run.lcn) runs
 
--- the shortest spelling of cells whose runs can't be joined: each of the longest runs in the fewest bytes of signed form
--- (the Linux-NTFS documentation, "Data Runs")
+-- the shortest spelling of cells whose runs can't be joined: each of the longest runs in the fewest bytes of signed
+-- form (the Linux-NTFS documentation, "Data Runs")
 unfoldable pub canon : List (Option ℕ) → List ℕ
 canon cells = text_from 0 (runs_of cells)
 

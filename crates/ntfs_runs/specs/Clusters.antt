@@ -13,7 +13,8 @@ unfoldable pub row : ℕ → Option ℕ → List (Option ℕ)
 row zero cell = []
 row (suc n) cell = cell ∷ row n (behind cell 1)
 
--- one cell for each VCN of the runs, in order: a cluster number, or None for a hole (the Linux-NTFS documentation, "Data Runs")
+-- one cell for each VCN of the runs, in order: a cluster number, or None for a hole (the Linux-NTFS documentation,
+-- "Data Runs")
 unfoldable pub vcns : List Run → List (Option ℕ)
 vcns [] = []
 vcns (run ∷ runs) = row run.length run.lcn ++ vcns runs
@@ -23,8 +24,8 @@ abbrev pub AreWithin : List Run → Type 0
 AreWithin [] = Unit {0}
 AreWithin (run ∷ runs) = IfSome run.lcn (λ lcn. lcn + run.length ≤ 2 ^ 64) × AreWithin runs
 
--- runs that mapping pairs can spell within a budget of clusters: each has at least one cluster, an LCN is at most 2 ^ 48, and
--- the lengths together are at most the budget; the budget of a whole list is 2 ^ 48
+-- runs that mapping pairs can spell within a budget of clusters: each has at least one cluster, an LCN is at most
+-- 2 ^ 48, and the lengths together are at most the budget; the budget of a whole list is 2 ^ 48
 abbrev pub FitFrom : ℕ → List Run → Type 0
 FitFrom room [] = Unit {0}
 FitFrom room (run ∷ runs) =

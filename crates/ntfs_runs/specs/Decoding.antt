@@ -15,6 +15,6 @@ IsFaultOf (BadPairs place) read = (read.is_right ≡ false) × (place ≡ read.p
 IsFaultOf NoMemory read = Unit {0}
 
 -- the answer is what reading gave, unless memory runs out
-abbrev pub Gives : Result (List Run) PairsFault → Reading → Type 0
-Gives (Ok list) read = (read.is_right ≡ true) × (list ≡ read.runs)
-Gives (Err fault) read = IsFaultOf fault read
+abbrev pub GivesReading : Result (List Run) PairsFault → Reading → Type 0
+GivesReading (Ok list) read = (read.is_right ≡ true) × (list ≡ read.runs)
+GivesReading (Err fault) read = IsFaultOf fault read

@@ -1,11 +1,11 @@
--- The signed numbers of mapping pairs: how bytes spell one, and the fewest bytes that do. Where no source is named, the word is
--- ours.
+-- The signed numbers of mapping pairs: how bytes spell one, and the fewest bytes that do. Where no source is named, the
+-- word is ours.
 use Rattle.std.specs.Prelude.{◌^◌, ◌&&◌, ℕ, ℤ, pos, negsuc, List, Option, Some, None, nat_le, nat_lt, if◌then◌else◌}
 use Rattle.std.specs.Int.{w64}
 use Rattle.byteorder.specs.Endian.{little_number, little_bytes, twos_complement, low_bytes}
 
--- the signed number in the first n bytes, the lowest first, as two's complement: lengths and LCN deltas are such numbers
--- (the Linux-NTFS documentation, "Data Runs")
+-- the signed number in the first n bytes, the lowest first, as two's complement: lengths and LCN deltas are such
+-- numbers (the Linux-NTFS documentation, "Data Runs")
 unfoldable pub signed : ℕ → List ℕ → ℤ
 signed n bytes = twos_complement n (little_number n bytes)
 
@@ -19,12 +19,13 @@ unfoldable pub reach : ℤ → ℕ
 reach (pos n) = n
 reach (negsuc n) = n
 
--- the fewest bytes, from 1 to 8, in which a signed number of this reach stands: n bytes hold a reach below 2 ^ (8 * n - 1)
--- (the Linux-NTFS documentation, "Data Runs", on the sizes in a header)
+-- the fewest bytes, from 1 to 8, in which a signed number of this reach stands: n bytes hold a reach below
+-- 2 ^ (8 * n - 1) (the Linux-NTFS documentation, "Data Runs", on the sizes in a header)
 unfoldable pub size_for : ℕ → ℕ
 size_for m =
-    if nat_lt m (2 ^ 7) then 1 else if nat_lt m (2 ^ 15) then 2 else if nat_lt m (2 ^ 23) then 3 else if nat_lt m (2 ^ 31) then 4
-    else if nat_lt m (2 ^ 39) then 5 else if nat_lt m (2 ^ 47) then 6 else if nat_lt m (2 ^ 55) then 7 else 8
+    if nat_lt m (2 ^ 7) then 1 else if nat_lt m (2 ^ 15) then 2 else if nat_lt m (2 ^ 23) then 3
+    else if nat_lt m (2 ^ 31) then 4 else if nat_lt m (2 ^ 39) then 5 else if nat_lt m (2 ^ 47) then 6
+    else if nat_lt m (2 ^ 55) then 7 else 8
 
 -- the n lowest bytes of a signed number, the lowest first
 unfoldable pub bytes_of : ℕ → ℤ → List ℕ

@@ -6,7 +6,6 @@ use Rattle.ntfs_runs.specs.declared.fault.BadPairs.{BadPairs}
 use Rattle.ntfs_runs.specs.declared.front.Front.{Front}
 use Rattle.ntfs_runs.specs.declared.front.Front.TheVariants.{Closing, Wrong, Pair}
 use Rattle.ntfs_runs.specs.Number.{signed, between}
-use Rattle.ntfs_runs.specs.Clusters.{vcns}
 use Rattle.ntfs_runs.specs.Spelling.{last_after}
 
 -- the length in the first n bytes, where it is at least 1 and there is room for it
@@ -31,7 +30,9 @@ has_sizes n m left = nat_le 1 n && nat_le n 8 && nat_le m 8 && nat_le (n + m) le
 -- a pair of n bytes of length and m of delta behind its header
 unfoldable pub pair_in : ℕ → ℕ → ℕ → ℕ → List ℕ → Front
 pair_in last room n m rest =
-    if has_sizes n m (length rest) then front_of (1 + n + m) (length_in room n rest) (lcn_in last m (drop n rest)) else Wrong
+    if has_sizes n m (length rest)
+    then front_of (1 + n + m) (length_in room n rest) (lcn_in last m (drop n rest))
+    else Wrong
 
 -- what stands in front of the bytes, behind the last LCN and with room for so many clusters
 unfoldable pub front_at : ℕ → ℕ → List ℕ → Front
@@ -57,7 +58,8 @@ reading_from zero last room place (byte ∷ bytes) =
     elim (front_at last room (byte ∷ bytes)) [
       | Closing ↦ record { runs = []; is_right = true; place = place }
       | Wrong ↦ record { runs = []; is_right = false; place = place }
-      | Pair run size ↦ with_run run (reading_from (size - 1) (last_after last run.lcn) (room - run.length) (suc place) bytes)
+      | Pair run size ↦
+          with_run run (reading_from (size - 1) (last_after last run.lcn) (room - run.length) (suc place) bytes)
     ]
 
 -- what reading the bytes of mapping pairs gives
@@ -73,18 +75,6 @@ abbrev pub items : Reading → List (Result Run BadPairs)
 items read = map Ok read.runs ++ (if read.is_right then [] else Err (record { place = read.place }) ∷ [])
 
 -- what is left of it, in front of these bytes
-abbrev pub items_from : Bool → ℕ → ℕ → ℕ → List ℕ → List (Result Run BadPairs)
-items_from true last room place bytes = []
-items_from false last room place bytes = items (reading_from 0 last room place bytes)
-
--- pairs as cells, for the layers above: whether they are right, and then a cell for each VCN
-pub record Cells : Type 0 where
-  pub is_right : Bool
-  pub cells : List (Option ℕ)
-
--- the cells of the bytes of mapping pairs; wrong pairs have none
-unfoldable pub cells_of : List ℕ → Cells
-cells_of bytes = record {
-  is_right = (reading bytes).is_right;
-  cells = if (reading bytes).is_right then vcns (reading bytes).runs else [];
-}
+abbrev pub items_left : Bool → ℕ → ℕ → ℕ → List ℕ → List (Result Run BadPairs)
+items_left true last room place bytes = []
+items_left false last room place bytes = items (reading_from 0 last room place bytes)

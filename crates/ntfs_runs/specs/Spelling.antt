@@ -1,11 +1,11 @@
--- Which bytes spell which runs, as a relation (the Linux-NTFS documentation, "Data Runs"). Where no source is named, the word is
--- ours.
+-- Which bytes spell which runs, as a relation (the Linux-NTFS documentation, "Data Runs"). Where no source is named,
+-- the word is ours.
 use Rattle.std.specs.Prelude.{◌⊎◌, ◌<ℤ◌, ◌/◌, ◌%◌, drop, ◌≡◌, ◌≢◌, ◌<◌, ◌≤◌, ◌+◌, ◌-◌, ◌*◌, ◌^◌, ◌+ℤ◌, ℕ, pos, List, [], ◌∷◌, ◌++◌, length, Option, Some, None}
 use Rattle.ntfs_runs.specs.declared.run.Run.{Run}
 use Rattle.ntfs_runs.specs.Number.{signed}
 
--- a mapping pair: a header byte whose low nibble is the number of bytes of the length and whose high nibble that of the LCN
--- delta, and then these bytes (the Linux-NTFS documentation, "Data Runs")
+-- a mapping pair: a header byte whose low nibble is the number of bytes of the length and whose high nibble that of the
+-- LCN delta, and then these bytes (the Linux-NTFS documentation, "Data Runs")
 abbrev pub pair : List ℕ → List ℕ → List ℕ
 pair count delta = (length count + 16 * length delta) ∷ count ++ delta
 
@@ -17,10 +17,12 @@ last_after last (Some lcn) = lcn
 -- a hole has no delta; an LCN is the last one and the delta, and at most 2 ^ 48
 abbrev pub IsPlace : ℕ → List ℕ → Option ℕ → Type 0
 IsPlace last delta None = delta ≡ []
-IsPlace last delta (Some lcn) = (0 < length delta) × (pos lcn ≡ pos last +ℤ signed (length delta) delta) × (lcn ≤ 2 ^ 48)
+IsPlace last delta (Some lcn) =
+    (0 < length delta) × (pos lcn ≡ pos last +ℤ signed (length delta) delta) × (lcn ≤ 2 ^ 48)
 
--- these bytes of a length and a delta are a pair for the run, behind the last LCN and with room for so many clusters: the sizes
--- are at most 8, the length is there and at least 1 (the Linux-NTFS documentation, "Data Runs"; the limit 2 ^ 48 is ours)
+-- these bytes of a length and a delta are a pair for the run, behind the last LCN and with room for so many clusters:
+-- the sizes are at most 8, the length is there and at least 1 (the Linux-NTFS documentation, "Data Runs"; the limit
+-- 2 ^ 48 is ours)
 pub record IsPair (last room : ℕ) (count delta : List ℕ) (run : Run) : Type 0 where
   pub count_least : 1 ≤ length count
   pub count_most : length count ≤ 8
@@ -55,8 +57,8 @@ room_of room [] = room
 room_of room (run ∷ runs) = room_of (room - run.length) runs
 
 -- no header that is right stands in front: neither the closing 0 nor the header of a whole pair
-unfoldable pub IsWrong : ℕ → ℕ → List ℕ → Type 0
-IsWrong last room bytes =
+unfoldable pub IsWrongHeader : ℕ → ℕ → List ℕ → Type 0
+IsWrongHeader last room bytes =
     ((more : List ℕ) → bytes ≢ 0 ∷ more)
     × ((run : Run) (count delta more : List ℕ) → IsPair last room count delta run → bytes ≢ pair count delta ++ more)
 
@@ -64,17 +66,18 @@ IsWrong last room bytes =
 unfoldable pub IsWrongAfter : List ℕ → List Run → ℕ → Type 0
 IsWrongAfter bytes runs place =
     (front : List ℕ) × (rest : List ℕ) × (bytes ≡ front ++ rest) × (length front ≡ place)
-    × PairsFrom 0 (2 ^ 48) front runs × IsWrong (last_of 0 runs) (room_of (2 ^ 48) runs) rest
+    × PairsFrom 0 (2 ^ 48) front runs × IsWrongHeader (last_of 0 runs) (room_of (2 ^ 48) runs) rest
 
--- why a header that tells n bytes of length and m of delta isn't right, behind the last LCN and with room for so many clusters: a
--- size of 0 or above 8, bytes that end too early, a length below 1 or that passes the room, an LCN below 0 or above 2 ^ 48
--- (the Linux-NTFS documentation, "Data Runs", on sizes and signs; the limits are ours)
-abbrev pub HasCause : ℕ → ℕ → ℕ → ℕ → List ℕ → Type 0
-HasCause last room n m rest =
+-- why a header that tells n bytes of length and m of delta isn't right, behind the last LCN and with room for so many
+-- clusters: a size of 0 or above 8, bytes that end too early, a length below 1 or that passes the room, an LCN below 0
+-- or above 2 ^ 48 (the Linux-NTFS documentation, "Data Runs", on sizes and signs; the limits are ours)
+abbrev pub HasPairCause : ℕ → ℕ → ℕ → ℕ → List ℕ → Type 0
+HasPairCause last room n m rest =
     (n ≡ 0) ⊎ ((8 < n) ⊎ ((8 < m) ⊎ ((length rest < n + m) ⊎ ((signed n rest <ℤ pos 1) ⊎ ((pos room <ℤ signed n rest)
-    ⊎ ((0 < m) × (((pos last +ℤ signed m (drop n rest)) <ℤ pos 0) ⊎ (pos (2 ^ 48) <ℤ (pos last +ℤ signed m (drop n rest))))))))))
+    ⊎ ((0 < m) × (((pos last +ℤ signed m (drop n rest)) <ℤ pos 0)
+    ⊎ (pos (2 ^ 48) <ℤ (pos last +ℤ signed m (drop n rest))))))))))
 
 -- the bytes end before a header, or the header isn't 0 and has one of these causes
 abbrev pub IsCaused : ℕ → ℕ → List ℕ → Type 0
 IsCaused last room [] = Unit {0}
-IsCaused last room (header ∷ rest) = (header ≢ 0) × HasCause last room (header % 16) (header / 16) rest
+IsCaused last room (header ∷ rest) = (header ≢ 0) × HasPairCause last room (header % 16) (header / 16) rest

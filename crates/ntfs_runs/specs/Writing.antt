@@ -21,8 +21,8 @@ joined_from None (run ∷ runs) = join_onto run runs
 joined_from (Some pending) runs = join_onto pending runs
 
 -- the whole spelling if these runs follow: what is written, and the text of what is pending and what follows
-unfoldable pub promised : Writer → List ℕ → List Run → List ℕ
-promised writer bytes runs = take writer.at bytes ++ text_from writer.last (joined_from writer.pending runs)
+unfoldable pub promise_of : Writer → List ℕ → List Run → List ℕ
+promise_of writer bytes runs = take writer.at bytes ++ text_from writer.last (joined_from writer.pending runs)
 
 -- a run whose pair can be written
 abbrev pub IsSmall : Run → Type 0
@@ -39,11 +39,11 @@ pub record IsSound (writer : Writer) (bytes : List ℕ) : Type 0 where
   pub last : writer.last ≤ 2 ^ 48
   pub pending : IfSome writer.pending IsSmall
 
--- a writer took a run: for whatever follows it promises what it promised before for this run and what follows, and has changed
--- nothing behind its place
+-- a writer took a run: for whatever follows it promises what it promised before for this run and what follows, and has
+-- changed nothing behind its place
 pub record Adds (old new : Writer) (before after : List ℕ) (run : Run) : Type 0 where
   pub sound : IsSound new after
-  pub same : (runs : List Run) → promised new after runs ≡ promised old before (run ∷ runs)
+  pub same : (runs : List Run) → promise_of new after runs ≡ promise_of old before (run ∷ runs)
   pub rest : drop new.at after ≡ drop new.at before
   pub on : old.at ≤ new.at
   pub waits : waiting_of new.pending ≤ waiting_of old.pending + run.length

@@ -3,7 +3,7 @@ ghost use Rattle.ntfs_runs.specs.declared.run.Run.{Run};
 ghost use Rattle.ntfs_runs.specs.Clusters.{AreSpellable, AreWithin};
 ghost use Rattle.ntfs_runs.specs.Spelling.{SpelledInFront, IsWrongAfter};
 ghost use Rattle.ntfs_runs.specs.Reading.{reading};
-ghost use Rattle.ntfs_runs.specs.Decoding.{IsUnlessNoMemory, Gives};
+ghost use Rattle.ntfs_runs.specs.Decoding.{IsUnlessNoMemory, GivesReading};
 
 use crate::fault::PairsFault;
 use crate::reader::pairs;
@@ -11,7 +11,7 @@ use crate::run_list::RunList;
 use std::alloc::Global;
 
 fn decode_all(alloc: Global, bytes: &[u8]) -> Result<RunList, PairsFault>
-    ensures { Gives result (reading bytes.now) }
+    ensures { GivesReading result (reading bytes.now) }
 {
     let mut runs = RunList::new(alloc);
     'pairs: for item in pairs(bytes) {
@@ -34,7 +34,7 @@ pub fn decode(alloc: Global, bytes: &[u8]) -> Result<RunList, PairsFault>
         → (runs : List Run) × IsWrongAfter bytes.now runs place }
     ensures first { (runs : List Run) (place : ℕ) → IsWrongAfter bytes.now runs place
         → IsUnlessNoMemory result (Err (PairsFault.BadPairs place)) }
-    ensures exact { Gives result (reading bytes.now) }
+    ensures exact { GivesReading result (reading bytes.now) }
     // What is read can be spelled again, and looked up.
     ensures spellable { IfOk result (λ list. AreSpellable list) }
     ensures within { IfOk result (λ list. AreWithin list) }

@@ -7,8 +7,8 @@ use crate::run::Run;
 use crate::run_list::RunList;
 use crate::writer::Writer;
 
-/// Writes the shortest spelling of what the runs mean, with its closing 0 and with neighbours joined, and gives its length;
-/// `None` where it is longer than `into`, which then holds anything. It takes no memory.
+/// Writes the shortest spelling of what the runs mean, with its closing 0 and with neighbours joined, and gives its
+/// length; `None` where it is longer than `into`, which then holds anything. It takes no memory.
 pub fn encode_into(runs: &RunList, into: &mut [u8]) -> Option<usize>
     requires { AreSpellable runs.now }
     // The length comes exactly where the spelling fits.

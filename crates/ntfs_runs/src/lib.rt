@@ -1,7 +1,8 @@
-//! Where a file's clusters lie: mapping pairs, the packed list of signed lengths and deltas of a non-resident attribute,
-//! read exactly and written in the one shortest spelling.
+//! Where a file's clusters lie: mapping pairs, the packed list of signed lengths and deltas of a non-resident
+//! attribute, read exactly and written in the one shortest spelling.
 #![tactic(auto)]
 
+mod cells;
 mod decoding;
 mod encoding;
 mod fault;

@@ -110,8 +110,8 @@ fn put_clusters(into: &mut [u8], at: usize, count: i64, delta: i64) -> Option<us
     Some(at + 1 + count_size + delta_size)
 }
 
-/// Writes the shortest pair of a run behind the last LCN at a place, and gives the place behind it; `None` where it doesn't
-/// fit.
+/// Writes the shortest pair of a run behind the last LCN at a place, and gives the place behind it; `None` where it
+/// doesn't fit.
 pub(crate) fn put_run(into: &mut [u8], at: usize, last: u64, run: Run) -> Option<usize>
     requires within { at ≤ length into.old }
     requires last { last ≤ 2 ^ 48 }

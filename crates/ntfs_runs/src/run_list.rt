@@ -1,6 +1,8 @@
-ghost use Rattle.std.specs.Prelude.{◌≡◌, [], ◌∷◌, ◌++◌, OnOk, OnErr, slice_get};
-ghost use Rattle.ntfs_runs.specs.Clusters.{vcns, AreWithin};
+ghost use Rattle.std.specs.Prelude.{◌≡◌, ◌≤◌, ◌^◌, [], ◌∷◌, ◌++◌, OnOk, OnErr, length, slice_get};
+ghost use Rattle.ntfs_runs.specs.Clusters.{vcns, AreSpellable, AreWithin};
+ghost use Rattle.ntfs_runs.specs.Cells.{are_cells};
 
+use crate::cells::{are_below, count_of};
 use crate::run::Run;
 use std::alloc::{AllocError, Global};
 use std::marker::Model;
@@ -52,6 +54,22 @@ impl RunList {
         ensures { result ≡ slice_get (vcns self.now) vcn }
     {
         cell_of(&self.runs, vcn)
+    }
+
+    /// How many VCNs the runs have.
+    pub fn vcn_count(&self) -> u64
+        requires { AreSpellable self.now }
+        ensures count { result ≡ length (vcns self.now) }
+        ensures most { result ≤ 2 ^ 48 }
+    {
+        count_of(&self.runs)
+    }
+
+    /// All clusters of the runs are below so many, and holes are there only where they may be.
+    pub fn lies_below(&self, holes: bool, clusters: u64) -> bool
+        ensures { result ≡ are_cells holes clusters (vcns self.now) }
+    {
+        are_below(&self.runs, holes, clusters)
     }
 }
 

@@ -296,6 +296,40 @@ fn a_cluster_is_looked_up(rt: HostRuntime) -> Result<(), Fail> {
 }
 
 #[test]
+fn vcns_of_a_list_are_counted(rt: HostRuntime) -> Result<(), Fail> {
+    assert_eq!(rt; RunList::new(rt.alloc()).vcn_count(), 0);
+    let runs = list(rt.alloc(), &[at(4, 100), hole(2), at(3, 90)])?;
+    assert_eq!(rt; runs.vcn_count(), 9);
+    let most = list(rt.alloc(), &[hole(1 << 47), at(1 << 47, 1)])?;
+    assert_eq!(rt; most.vcn_count(), 1 << 48);
+    Ok(())
+}
+
+#[test]
+fn a_list_lies_below_a_number_of_clusters(rt: HostRuntime) -> Result<(), Fail> {
+    assert!(rt; RunList::new(rt.alloc()).lies_below(false, 0));
+    let runs = list(rt.alloc(), &[at(4, 100), at(3, 90)])?;
+    for (clusters, want) in [
+        (0, false),
+        (100, false),
+        (103, false),
+        (104, true),
+        (105, true),
+    ] {
+        assert_eq!(rt; runs.lies_below(false, clusters), want, "at {clusters}");
+        assert_eq!(rt; runs.lies_below(true, clusters), want, "at {clusters}");
+    }
+    let holes = list(rt.alloc(), &[at(4, 100), hole(2), at(3, 90)])?;
+    assert!(rt; holes.lies_below(true, 104));
+    assert!(rt; !holes.lies_below(false, 104));
+    let last = list(rt.alloc(), &[at(1, u64::MAX), at(u64::MAX, 0)])?;
+    assert!(rt; !last.lies_below(true, u64::MAX));
+    let none = list(rt.alloc(), &[hole(0), at(0, u64::MAX)])?;
+    assert!(rt; none.lies_below(false, 0));
+    Ok(())
+}
+
+#[test]
 fn a_long_list_is_read_and_spelled_again(rt: HostRuntime) -> Result<(), Fail> {
     let mut bytes = Vec::new(rt.alloc());
     for _ in 0..100_000u32 {
@@ -311,8 +345,8 @@ fn a_long_list_is_read_and_spelled_again(rt: HostRuntime) -> Result<(), Fail> {
     Ok(())
 }
 
-/// Reads pairs and puts a run in a list: whether both were done. `tools/refused_memory.py` has each allocation of it refused in
-/// turn.
+/// Reads pairs and puts a run in a list: whether both were done. `tools/refused_memory.py` has each allocation of it
+/// refused in turn.
 fn reading_is_whole(rt: &impl Abort, host: &HostRuntime) -> Result<bool, Fail> {
     let alloc = host.alloc();
     let text = [0x21, 0x18, 0x34, 0x56, 0x01, 0x05, 0x00];

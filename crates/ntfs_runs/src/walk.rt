@@ -20,11 +20,11 @@ impl<'a> Model for Pairs<'a> {
     ghost use Rattle.std.specs.Prelude.{◌+◌, ◌<◌, ◌^◌, List, Result, length};
     ghost use Rattle.ntfs_runs.specs.declared.run.Run.{Run};
     ghost use Rattle.ntfs_runs.specs.declared.fault.BadPairs.{BadPairs};
-    ghost use Rattle.ntfs_runs.specs.Reading.{items_from};
+    ghost use Rattle.ntfs_runs.specs.Reading.{items_left};
 
     ghost Value = { List (Result Run BadPairs) };
 
-    ghost view = { λ s. items_from s.has_ended s.last s.room s.place s.rest.now };
+    ghost view = { λ s. items_left s.has_ended s.last s.room s.place s.rest.now };
 
     ghost invariant = { λ s. s.place + length s.rest.now < 2 ^ 64 };
 }

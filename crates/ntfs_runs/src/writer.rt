@@ -2,7 +2,7 @@ ghost use Rattle.std.specs.Prelude.{◌≡◌, ◌≤◌, ◌<◌, ◌+◌, ◌^
 ghost use Rattle.std.specs.Option.{SomeIff, OnSome};
 ghost use Rattle.ntfs_runs.specs.declared.run.Run.{Run};
 ghost use Rattle.ntfs_runs.specs.Canon.{goes_on};
-ghost use Rattle.ntfs_runs.specs.Writing.{IsSmall, IsSound, Adds, promised, waiting_of};
+ghost use Rattle.ntfs_runs.specs.Writing.{IsSmall, IsSound, Adds, promise_of, waiting_of};
 
 use crate::put::{put_closing, put_run};
 use crate::run::Run;
@@ -24,8 +24,8 @@ fn is_adjacent(first: Run, second: Run) -> bool
     }
 }
 
-/// A spelling that is being written: the place behind what is written, the last LCN there, and the run that the next one may
-/// still lengthen.
+/// A spelling that is being written: the place behind what is written, the last LCN there, and the run that the next
+/// one may still lengthen.
 #[derive(Clone, Copy, Debug)]
 pub(crate) struct Writer {
     at: usize,
@@ -51,7 +51,7 @@ impl Writer {
         requires together { waiting_of self.old.pending + run.length ≤ 2 ^ 48 }
         ensures added { OnSome result (Adds self.old self.new into.old into.new run) }
         ensures full { IfNone result ((runs : List Run)
-            → length into.old < length (promised self.old into.old (run ∷ runs))) }
+            → length into.old < length (promise_of self.old into.old (run ∷ runs))) }
     {
         let Some(pending) = self.pending else {
             self.pending = Some(run);
@@ -73,9 +73,9 @@ impl Writer {
     /// Writes what waits and the closing 0, and gives the length of the whole; `None` where it doesn't fit.
     pub(crate) fn finish(self, into: &mut [u8]) -> Option<usize>
         requires { IsSound self into.old }
-        ensures fits { SomeIff result (length (promised self into.old []) ≤ length into.old)
-            (length (promised self into.old [])) }
-        ensures written { IfSome result (λ n. into.new ≡ promised self into.old [] ++ drop n into.old) }
+        ensures fits { SomeIff result (length (promise_of self into.old []) ≤ length into.old)
+            (length (promise_of self into.old [])) }
+        ensures written { IfSome result (λ n. into.new ≡ promise_of self into.old [] ++ drop n into.old) }
     {
         match self.pending {
             None => put_closing(into, self.at),

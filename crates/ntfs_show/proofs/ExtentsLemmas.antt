@@ -1,5 +1,5 @@
 -- Extents, one after the other.
-use Rattle.std.proofs.Common.{◌≡◌, ◌≤◌, ◌-◌, ◌&&◌, ◌==◌, ℕ, List, [], ◌∷◌, ◌++◌, length, map, refl, sym, ap, ◌∙◌, subst, arith, length-append, append_assoc, eq-eqb, Bool, true, false, Option, Some, None, Ok, Err, if◌then◌else◌, inl, inr}
+use Rattle.std.proofs.Common.{◌≡◌, ◌≤◌, ◌+◌, ◌-◌, ◌&&◌, ◌==◌, ℕ, List, [], ◌∷◌, ◌++◌, length, map, refl, sym, ap, ◌∙◌, subst, arith, length-append, append_assoc, eq-eqb, Bool, true, false, Option, Some, None, Ok, Err, if◌then◌else◌, inl, inr}
 use Rattle.std.specs.Prelude.{not, find, is_some, option_map, ◌||◌}
 use Rattle.std.proofs.Math.Bool.{and-true}
 use Rattle.std.proofs.lemmas.Bool.{eqb-true, false≢true}
@@ -7,18 +7,21 @@ use Rattle.std.proofs.lemmas.List.{append-nil}
 use Rattle.ntfs_base.specs.Frames.{IsSettled}
 use Rattle.ntfs_base.specs.declared.refusal.Missing.TheVariants as missing
 use Rattle.ntfs_base.specs.declared.refusal.Rule.TheVariants as rule
-use Rattle.ntfs_record.specs.Entry.{Part, map_parts}
-use Rattle.ntfs_record.specs.Views.{Shown, shown_part}
+use Rattle.ntfs_record.specs.Attribute.{attribute_of}
+use Rattle.ntfs_record.specs.FileRecord.{Attribute, FileRecord, Laid, attributes_of}
+use Rattle.ntfs_record.specs.Views.{Shown, placed_from, shown_placed}
 use Rattle.ntfs_runs.specs.declared.run.Run.{Run}
 use Rattle.ntfs_runs.specs.Clusters.{vcns}
 use Rattle.ntfs_show.specs.Cat.{cat_origin}
-use Rattle.ntfs_show.specs.Cells.{Cells, are_cells, cells_below}
-use Rattle.ntfs_show.specs.Gather.{AreRuns, Extent, IsPairsFault, JoinsFrom, TakesExtent, are_right, cells_in, extents_of, has_list, have_room, is_data, is_list, is_right, is_wanted, join_from, runs_stream, shown_extent, shown_extents, stream_in, stream_of, stream_of_runs, value_stream}
+use Rattle.ntfs_runs.specs.Cells.{Cells, are_cells, cells_below}
+use Rattle.ntfs_show.specs.Gather.{AreRuns, Extent, IsPairsFault, JoinsFrom, TakesExtent, are_right, cells_in, extents_of, has_list, is_list, is_right, is_wanted, join_from, runs_stream, shown_attributes, shown_extent, shown_extents, stream_in, stream_of, stream_of_runs, value_stream, with_cells}
+use Rattle.ntfs_volume.specs.MftMap.{is_data}
+use Rattle.ntfs_volume.specs.StreamBytes.{have_room}
 use Rattle.ntfs_show.specs.declared.cat_fault.CatFault.{CatFault}
 use Rattle.ntfs_show.specs.declared.cat_fault.CatFault.TheVariants as cat
 use Rattle.ntfs_show.specs.declared.extents.Extents.{Extents}
 use Rattle.ntfs_show.specs.declared.wanted.Wanted.TheVariants as wanted
-use Rattle.ntfs_show.proofs.CellsLemmas.{are_cells-append}
+use Rattle.ntfs_runs.proofs.CellsLemmas.{are_cells-append}
 
 and-is : (a b : Bool) → a ≡ true → b ≡ true → (a && b) ≡ true
 and-is a b first second = rw (first, second) refl
@@ -123,24 +126,31 @@ list-step : {X : Type 0} (x : X) (test rest : Bool) (others : Option X) → is_s
 list-step x true rest others is = refl
 list-step x false rest others is = is
 
-pub list-found : (parts : List (Part (List ℕ))) → is_some (find (is_wanted wanted.List) (map shown_part parts)) ≡ has_list parts
+pub list-found : (place : ℕ) (raws : List (List ℕ)) → is_some (find (is_wanted wanted.List) (map shown_placed (placed_from place raws))) ≡ has_list (map attribute_of raws)
 unfolding has_list
-list-found [] = refl
-list-found (part ∷ parts) = list-step (shown_part part) (is_list part.head.kind) (has_list parts) (find (is_wanted wanted.List) (map shown_part parts)) (list-found parts)
+list-found place [] = refl
+list-found place (raw ∷ raws) =
+    list-step (shown_placed (record { place = place; raw = raw })) (is_list (attribute_of raw).face.kind) (has_list (map attribute_of raws)) (find (is_wanted wanted.List) (map shown_placed (placed_from (place + length raw) raws)))
+    (list-found (place + length raw) raws)
 
-list-mapped : {P : Type 0} (f : List ℕ → P) (parts : List (Part (List ℕ))) → has_list (map_parts f parts) ≡ has_list parts
+list-mapped : (n : ℕ) (attributes : List (Attribute (Laid (List ℕ)))) → has_list (with_cells n attributes) ≡ has_list attributes
 unfolding has_list
-list-mapped f [] = refl
-list-mapped f (part ∷ parts) = ap (λ b. is_list part.head.kind || b) (list-mapped f parts)
+list-mapped n [] = refl
+list-mapped n (a ∷ rest) = ap (λ b. is_list a.face.kind || b) (list-mapped n rest)
+
+pub list-of : (file : FileRecord) → is_some (find (is_wanted wanted.List) (shown_attributes file)) ≡ has_list (attributes_of file)
+list-of file = list-found file.layout.first_attribute file.raws
 
 extents-step : {X : Type 0} (test : Bool) (x : X) (a b : List X) → a ≡ b → (if test then x ∷ a else a) ≡ (if test then x ∷ b else b)
 extents-step true x a b is = ap (λ xs. x ∷ xs) is
 extents-step false x a b is = is
 
-pub extents-shown : (n : ℕ) (parts : List (Part (List ℕ))) → extents_of (map_parts (cells_below n) parts) ≡ shown_extents (cells_below n) (map shown_part parts)
+extents-shown : (n place : ℕ) (raws : List (List ℕ)) → extents_of (with_cells n (map attribute_of raws)) ≡ shown_extents (cells_below n) (map shown_placed (placed_from place raws))
 unfolding extents_of shown_extents
-extents-shown n [] = refl
-extents-shown n (part ∷ parts) = extents-step (is_data part.head.kind part.head.name) (shown_extent (cells_below n) (shown_part part)) (extents_of (map_parts (cells_below n) parts)) (shown_extents (cells_below n) (map shown_part parts)) (extents-shown n parts)
+extents-shown n place [] = refl
+extents-shown n place (raw ∷ raws) =
+    extents-step (is_data (attribute_of raw).face.kind (attribute_of raw).face.name) (shown_extent (cells_below n) (shown_placed (record { place = place; raw = raw }))) (extents_of (with_cells n (map attribute_of raws)))
+    (shown_extents (cells_below n) (map shown_placed (placed_from (place + length raw) raws))) (extents-shown n (place + length raw) raws)
 
 first-step : (n : ℕ) (test : Bool) (x : Shown) (found : Option Shown) (rest : List (Extent (Cells ℕ))) (s : Shown) → ((found ≡ Some s) → (es : List (Extent (Cells ℕ))) × (rest ≡ shown_extent (cells_below n) s ∷ es)) → (if test then Some x else found) ≡ Some s
     → (es : List (Extent (Cells ℕ))) × ((if test then shown_extent (cells_below n) x ∷ rest else rest) ≡ shown_extent (cells_below n) s ∷ es)
@@ -163,36 +173,36 @@ no-extent n [] is = refl
 no-extent n (x ∷ xs) is = none-step n (is_data x.kind x.name) x (find (is_wanted wanted.Data) xs) (shown_extents (cells_below n) xs) (no-extent n xs) is
 
 -- a record with a list, without data, with a value, with runs
-pub stream-list : (c n r : ℕ) (parts : List (Part (List ℕ))) → is_some (find (is_wanted wanted.List) (map shown_part parts)) ≡ true → stream_in c r (map_parts (cells_below n) parts) ≡ Err (cat.Damaged rule.C11 r)
+pub stream-list : (c n r : ℕ) (file : FileRecord) → is_some (find (is_wanted wanted.List) (shown_attributes file)) ≡ true → stream_in c r (with_cells n (attributes_of file)) ≡ Err (cat.Damaged rule.C11 r)
 unfolding stream_in
-stream-list c n r parts is = rw (list-mapped (cells_below n) parts ∙ sym (list-found parts) ∙ is) refl
+stream-list c n r file is = rw (list-mapped n (attributes_of file) ∙ sym (list-of file) ∙ is) refl
 
-plain-stream : (c n r : ℕ) (parts : List (Part (List ℕ))) → is_some (find (is_wanted wanted.List) (map shown_part parts)) ≡ false
-    → stream_in c r (map_parts (cells_below n) parts) ≡ stream_of c r (shown_extents (cells_below n) (map shown_part parts))
+plain-stream : (c n r : ℕ) (file : FileRecord) → is_some (find (is_wanted wanted.List) (shown_attributes file)) ≡ false
+    → stream_in c r (with_cells n (attributes_of file)) ≡ stream_of c r (shown_extents (cells_below n) (shown_attributes file))
 unfolding stream_in
-plain-stream c n r parts is = rw (list-mapped (cells_below n) parts ∙ sym (list-found parts) ∙ is, extents-shown n parts) refl
+plain-stream c n r file is = rw (list-mapped n (attributes_of file) ∙ sym (list-of file) ∙ is, extents-shown n file.layout.first_attribute file.raws) refl
 
-pub stream-none : (c n r : ℕ) (parts : List (Part (List ℕ))) → is_some (find (is_wanted wanted.List) (map shown_part parts)) ≡ false → find (is_wanted wanted.Data) (map shown_part parts) ≡ None
-    → stream_in c r (map_parts (cells_below n) parts) ≡ Err (cat.NotFound missing.Stream)
+pub stream-none : (c n r : ℕ) (file : FileRecord) → is_some (find (is_wanted wanted.List) (shown_attributes file)) ≡ false → find (is_wanted wanted.Data) (shown_attributes file) ≡ None
+    → stream_in c r (with_cells n (attributes_of file)) ≡ Err (cat.NotFound missing.Stream)
 unfolding stream_of
-stream-none c n r parts is none = plain-stream c n r parts is ∙ ap (stream_of c r) (no-extent n (map shown_part parts) none)
+stream-none c n r file is none = plain-stream c n r file is ∙ ap (stream_of c r) (no-extent n (shown_attributes file) none)
 
 first-of : (c n r : ℕ) (s : Shown) (es : List (Extent (Cells ℕ))) (resident : Bool) → s.body.is_resident ≡ resident
     → stream_of c r (shown_extent (cells_below n) s ∷ es) ≡ (if resident then Ok (value_stream s.flags s.body.value) else stream_of_runs c r s.flags s.body.size s.body.valid (shown_extent (cells_below n) s ∷ es))
 unfolding stream_of
 first-of c n r s es resident is = rw is refl
 
-pub stream-value : (c n r : ℕ) (parts : List (Part (List ℕ))) (s : Shown) → is_some (find (is_wanted wanted.List) (map shown_part parts)) ≡ false → find (is_wanted wanted.Data) (map shown_part parts) ≡ Some s
-    → s.body.is_resident ≡ true → stream_in c r (map_parts (cells_below n) parts) ≡ Ok (value_stream s.flags s.body.value)
-stream-value c n r parts s is found resident =
-    let first = first-extent n (map shown_part parts) s found in
-    plain-stream c n r parts is ∙ ap (stream_of c r) first.1 ∙ first-of c n r s first.0 true resident
+pub stream-value : (c n r : ℕ) (file : FileRecord) (s : Shown) → is_some (find (is_wanted wanted.List) (shown_attributes file)) ≡ false → find (is_wanted wanted.Data) (shown_attributes file) ≡ Some s
+    → s.body.is_resident ≡ true → stream_in c r (with_cells n (attributes_of file)) ≡ Ok (value_stream s.flags s.body.value)
+stream-value c n r file s is found resident =
+    let first = first-extent n (shown_attributes file) s found in
+    plain-stream c n r file is ∙ ap (stream_of c r) first.1 ∙ first-of c n r s first.0 true resident
 
-pub stream-runs : (c n r : ℕ) (parts : List (Part (List ℕ))) (s : Shown) → is_some (find (is_wanted wanted.List) (map shown_part parts)) ≡ false → find (is_wanted wanted.Data) (map shown_part parts) ≡ Some s
-    → s.body.is_resident ≡ false → stream_in c r (map_parts (cells_below n) parts) ≡ stream_of_runs c r s.flags s.body.size s.body.valid (shown_extents (cells_below n) (map shown_part parts))
-stream-runs c n r parts s is found runs =
-    let first = first-extent n (map shown_part parts) s found in
-    plain-stream c n r parts is ∙ ap (stream_of c r) first.1 ∙ first-of c n r s first.0 false runs ∙ ap (stream_of_runs c r s.flags s.body.size s.body.valid) (sym first.1)
+pub stream-runs : (c n r : ℕ) (file : FileRecord) (s : Shown) → is_some (find (is_wanted wanted.List) (shown_attributes file)) ≡ false → find (is_wanted wanted.Data) (shown_attributes file) ≡ Some s
+    → s.body.is_resident ≡ false → stream_in c r (with_cells n (attributes_of file)) ≡ stream_of_runs c r s.flags s.body.size s.body.valid (shown_extents (cells_below n) (shown_attributes file))
+stream-runs c n r file s is found runs =
+    let first = first-extent n (shown_attributes file) s found in
+    plain-stream c n r file is ∙ ap (stream_of c r) first.1 ∙ first-of c n r s first.0 false runs ∙ ap (stream_of_runs c r s.flags s.body.size s.body.valid) (sym first.1)
 
 -- ---- all extents are gathered
 

@@ -1,11 +1,8 @@
 pub mod AnswerLemmas
+pub mod BoolLemmas
 pub mod CellsLemmas
 pub mod ListsLemmas
 pub mod ExtentsLemmas
-pub mod RecordsLemmas
-pub mod MapLemmas
-pub mod ReadLemmas
-pub mod TableLemmas
 pub mod StreamBytesLemmas
 pub mod PutLemmas
 pub mod CatLemmas

@@ -1,5 +1,5 @@
 -- One item less of a list: what was found, and what holds of all.
-use Rattle.std.proofs.Common.{◌≡◌, suc, List, [], ◌∷◌, refl, sym, ap, ◌∙◌, subst, arith, Bool, true, false, Option, Some, None}
+use Rattle.std.proofs.Common.{◌≡◌, suc, List, ◌∷◌, refl, sym, ap, ◌∙◌, subst, arith, Bool, false, Option}
 use Rattle.std.specs.Prelude.{find, All}
 
 find-rest : {X : Type 0} (p : X → Bool) (x : X) (rest : List X) → p x ≡ false → find p (x ∷ rest) ≡ find p rest

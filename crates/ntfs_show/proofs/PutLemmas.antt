@@ -14,11 +14,11 @@ use Rattle.ntfs_runs.specs.declared.run.Run.{Run}
 use Rattle.ntfs_runs.specs.Clusters.{behind, row, vcns}
 use Rattle.ntfs_runs.proofs.CellsLemmas.{length-row, no_run, vcns-all}
 use Rattle.ntfs_show.specs.Cat.{cat_origin, sink_fault}
-use Rattle.ntfs_show.specs.Cells.{are_cells, is_cell, map_cells}
+use Rattle.ntfs_runs.specs.Cells.{are_cells, is_cell, map_cells}
 use Rattle.ntfs_show.specs.Putting.{IsLeft, IsLeftBehind}
 use Rattle.ntfs_show.specs.StreamBytes.{pieces, shown_cell}
 use Rattle.ntfs_show.specs.declared.stream.Remaining.{Remaining}
-use Rattle.ntfs_show.proofs.TableLemmas.{and-left, and-right}
+use Rattle.ntfs_show.proofs.BoolLemmas.{and-left, and-right}
 
 -- a refusal of the sink cuts the work off
 pub sink-cuts : (fault : PutFault) → IsSettled (cat_origin (sink_fault fault)) → ⊥

@@ -1,5 +1,5 @@
 -- The bytes of a stream, cell by cell.
-use Rattle.std.proofs.Common.{◌≡◌, ◌≤◌, ◌<◌, ◌+◌, ◌-◌, ◌*◌, ◌&&◌, ℕ, List, [], ◌∷◌, ◌++◌, length, take, min, refl, sym, ap, ◌∙◌, subst, arith, slice_range, append_assoc, Bool, true, Option, Some, None, nat_lt}
+use Rattle.std.proofs.Common.{◌≡◌, ◌≤◌, ◌<◌, ◌+◌, ◌-◌, ◌*◌, ◌&&◌, ℕ, List, [], ◌∷◌, ◌++◌, length, take, drop, min, refl, sym, ap, ◌∙◌, subst, arith, slice_range, append_assoc, Bool, true, Option, Some, None, nat_lt}
 use Rattle.std.specs.Prelude.{replicate}
 use Rattle.std.specs.Option.{option_map}
 use Rattle.std.proofs.lemmas.List.{length-replicate, length-take-le, take_all, take_min, take-replicate, replicate-append-replicate, take-append-le, append-nil}
@@ -7,19 +7,25 @@ use Rattle.ntfs_base.specs.Bytes.{cluster_at}
 use Rattle.std.proofs.Common.{◌⊎◌, inl, inr, nat_le}
 use Rattle.std.proofs.Math.Seq.{take-append-add}
 use Rattle.std.proofs.lemmas.Bool.{cases_lt, leb-true, ltb-true}
-use Rattle.ntfs_show.specs.Cells.{are_cells, is_cell, map_cells}
+use Rattle.ntfs_runs.specs.Cells.{are_cells, is_cell, map_cells}
 use Rattle.std.proofs.Common.{Bor}
 use Rattle.ntfs_boot.specs.declared.geometry.Geometry.{Geometry}
 use Rattle.ntfs_runs.specs.declared.run.Run.{Run}
 use Rattle.ntfs_runs.specs.Clusters.{vcns}
 use Rattle.ntfs_show.specs.Cat.{filled_stream}
-use Rattle.ntfs_show.specs.Gather.{IsReadable, have_room, shown_stream}
+use Rattle.ntfs_show.specs.Gather.{IsReadable, shown_stream}
 use Rattle.ntfs_show.specs.declared.extents.Stream.{Stream}
 use Rattle.ntfs_show.specs.declared.extents.Stream.TheVariants.{Value, Runs}
-use Rattle.ntfs_show.proofs.TableLemmas.{clusters-long}
-use Rattle.ntfs_show.proofs.TableLemmas.{and-left, and-right}
-use Rattle.ntfs_show.specs.StreamBytes.{cell_bytes, cells_bytes, pieces, runs_bytes, shown_cell, stream_bytes}
-use Rattle.ntfs_show.proofs.ReadLemmas.{read-from}
+use Rattle.ntfs_base.proofs.BytesLemmas.{length-cluster_at}
+use Rattle.ntfs_show.proofs.BoolLemmas.{and-left, and-right}
+use Rattle.ntfs_volume.specs.StreamBytes.{cell_bytes, cells_bytes, have_room, runs_bytes}
+use Rattle.ntfs_show.specs.StreamBytes.{pieces, shown_cell, bytes_of_stream}
+
+-- what was read from a place
+read-from : (content into : List ℕ) (at from len size : ℕ) → into ≡ slice_range content at (at + len) → at ≡ from → len ≡ size → into ≡ take size (drop from content)
+read-from content into at from len size is place long =
+    let count : at + len - at ≡ size = omega arith in
+    is ∙ ap (λ n. take n (drop at content)) count ∙ ap (λ p. take size (drop p content)) place
 
 -- a cluster that was read, and then cleared from the initialised size on
 pub cleared : (content buffer after : List ℕ) (c lcn valid at k from : ℕ) → k ≡ c → lcn * c + c ≤ length content → at ≡ lcn * c → length buffer ≡ c → from ≡ min valid k
@@ -48,6 +54,10 @@ cluster_end k n c lt = grind arith
 
 pub cluster-within : (k n c size : ℕ) → k < n → n * c ≤ size → k * c + c ≤ size
 cluster-within k n c size lt held = let end = cluster_end k n c lt in omega (arith, end, held)
+
+-- each cluster below the end has its bytes
+clusters-long : (content : List ℕ) (c n : ℕ) → n * c ≤ length content → (k : ℕ) → k < n → length (cluster_at content c k) ≡ c
+clusters-long content c n held k below = length-cluster_at content c k (cluster-within k n c (length content) below held)
 
 -- ---- the pieces of all cells are the stream's bytes
 
@@ -115,14 +125,14 @@ runs-whole f c n s v cells long are room =
     pieces-whole f c n s v cells long are (leb-true v s (and-right (nat_le s (length cells * c)) (nat_le v s) room)) (leb-true s (length cells * c) (and-left (nat_le s (length cells * c)) (nat_le v s) room))
 
 -- the bytes of a stream that was gathered
-pub value-bytes : (g : Geometry) (content : List ℕ) (stream : Stream) (flags : ℕ) (value : Bor (List ℕ)) → stream ≡ Value flags value → value.now ≡ stream_bytes g.cluster (filled_stream g content (shown_stream stream))
-unfolding stream_bytes
-value-bytes g content stream flags value is = ap (λ (s : Stream). stream_bytes g.cluster (filled_stream g content (shown_stream s))) (sym is)
+pub value-bytes : (g : Geometry) (content : List ℕ) (stream : Stream) (flags : ℕ) (value : Bor (List ℕ)) → stream ≡ Value flags value → value.now ≡ bytes_of_stream g.cluster (filled_stream g content (shown_stream stream))
+unfolding bytes_of_stream
+value-bytes g content stream flags value is = ap (λ (s : Stream). bytes_of_stream g.cluster (filled_stream g content (shown_stream s))) (sym is)
 
 pub runs-bytes : (g : Geometry) (content : List ℕ) (stream : Stream) (flags size valid : ℕ) (runs : List Run) → stream ≡ Runs flags size valid runs → IsReadable g stream → g.clusters * g.cluster ≤ length content
-    → pieces g.cluster size valid (map_cells (cluster_at content g.cluster) (vcns runs)) ≡ stream_bytes g.cluster (filled_stream g content (shown_stream stream))
-unfolding stream_bytes
+    → pieces g.cluster size valid (map_cells (cluster_at content g.cluster) (vcns runs)) ≡ bytes_of_stream g.cluster (filled_stream g content (shown_stream stream))
+unfolding bytes_of_stream
 runs-bytes g content stream flags size valid runs is readable held =
     let can : IsReadable g (Runs flags size valid runs) = subst (IsReadable g) is readable in
     runs-whole (cluster_at content g.cluster) g.cluster g.clusters size valid (vcns runs) (clusters-long content g.cluster g.clusters held) can.0 can.1
-    ∙ ap (λ (s : Stream). stream_bytes g.cluster (filled_stream g content (shown_stream s))) (sym is)
+    ∙ ap (λ (s : Stream). bytes_of_stream g.cluster (filled_stream g content (shown_stream s))) (sym is)

@@ -1,17 +1,19 @@
 -- The unnamed data stream of a base record: the attributes that it is made of, joined (the Linux-NTFS documentation,
 -- "$DATA", "$ATTRIBUTE_LIST" and "Attribute Header"; the refusals and their order are ours). A record with an attribute
 -- list is refused for now.
-use Rattle.std.specs.Prelude.{◌≡◌, ◌⊎◌, ◌-◌, ◌*◌, ◌==◌, ◌&&◌, ◌||◌, not, ℕ, Bool, true, false, List, [], ◌∷◌, ◌++◌, length, Option, Some, None, Result, Ok, Err, nat_le, if◌then◌else◌}
+use Rattle.std.specs.Prelude.{◌≡◌, ◌⊎◌, ◌-◌, ◌==◌, ◌&&◌, ◌||◌, not, ℕ, Bool, true, false, List, [], ◌∷◌, ◌++◌, length, map, Option, Some, None, Result, Ok, Err, if◌then◌else◌}
 use Rattle.ntfs_base.specs.Frames.{must, ◌>>=◌}
 use Rattle.ntfs_base.specs.declared.refusal.Missing.TheVariants as missing
 use Rattle.ntfs_base.specs.declared.refusal.Rule.TheVariants as rule
 use Rattle.ntfs_boot.specs.declared.geometry.Geometry.{Geometry}
-use Rattle.ntfs_record.specs.Entry.{Part}
-use Rattle.ntfs_record.specs.Views.{Shown}
+use Rattle.ntfs_record.specs.FileRecord.{Attribute, FileRecord, Head, Laid}
+use Rattle.ntfs_record.specs.Slots.{map_laid}
+use Rattle.ntfs_record.specs.Views.{Shown, placed_of, shown_placed}
 use Rattle.ntfs_runs.specs.Clusters.{vcns}
 use Rattle.ntfs_runs.specs.declared.run.Run.{Run}
-use Rattle.ntfs_show.specs.Cells.{Cells, are_cells, cells_below, map_cells}
-use Rattle.ntfs_show.specs.Records.{Slot}
+use Rattle.ntfs_runs.specs.Cells.{Cells, are_cells, cells_below, map_cells}
+use Rattle.ntfs_volume.specs.MftMap.{is_data}
+use Rattle.ntfs_volume.specs.StreamBytes.{have_room}
 use Rattle.ntfs_show.specs.declared.cat_fault.CatFault.{CatFault}
 use Rattle.ntfs_show.specs.declared.cat_fault.CatFault.TheVariants as cat
 use Rattle.ntfs_show.specs.declared.extents.Extents.{Extents}
@@ -24,10 +26,6 @@ use Rattle.ntfs_show.specs.declared.wanted.Wanted.TheVariants as wanted
 abbrev pub is_list : ℕ → Bool
 is_list kind = kind == 0x20
 
--- the attribute is unnamed data
-abbrev pub is_data : ℕ → List ℕ → Bool
-is_data kind name = (kind == 0x80) && (length name == 0)
-
 -- a part of a stream, with what stands for its runs
 pub record Extent (P : Type 0) : Type 0 where
   pub flags : ℕ
@@ -39,33 +37,35 @@ pub record Extent (P : Type 0) : Type 0 where
   pub valid : ℕ
   pub payload : P
 
-abbrev pub extent_of : {P : Type 0} → Part P → Extent P
-extent_of part = record {
-  flags = part.head.flags;
-  is_resident = part.head.is_resident;
-  value = part.head.value;
-  lowest = part.head.lowest;
-  next = part.head.next;
-  size = part.head.size;
-  valid = part.head.valid;
-  payload = part.payload;
+-- the part of a stream that an attribute is; the word is ours
+abbrev pub extent_of : {P : Type 0} → Attribute (Laid P) → Extent P
+extent_of a = record {
+  flags = a.face.flags;
+  is_resident = a.face.is_resident;
+  value = a.face.value;
+  lowest = a.face.lowest;
+  next = a.face.next;
+  size = a.face.size;
+  valid = a.face.valid;
+  payload = a.payload.runs;
 }
 
 -- one of the attributes is a list of attributes
-unfoldable pub has_list : {P : Type 0} → List (Part P) → Bool
+unfoldable pub has_list : {P : Type 0} → List (Attribute P) → Bool
 has_list [] = false
-has_list (part ∷ parts) = is_list part.head.kind || has_list parts
+has_list (a ∷ rest) = is_list a.face.kind || has_list rest
 
 -- the attributes that are unnamed data, in their order
-unfoldable pub extents_of : {P : Type 0} → List (Part P) → List (Extent P)
+unfoldable pub extents_of : {P : Type 0} → List (Attribute (Laid P)) → List (Extent P)
 extents_of [] = []
-extents_of (part ∷ parts) =
-    if is_data part.head.kind part.head.name then extent_of part ∷ extents_of parts else extents_of parts
+extents_of (a ∷ rest) =
+    if is_data a.face.kind a.face.name then extent_of a ∷ extents_of rest else extents_of rest
 
 -- the pairs of an extent are right, and spell a cell for each of its VCNs
 abbrev pub is_right : {X : Type 0} → Extent (Cells X) → Bool
 is_right e = e.is_resident || (e.payload.is_right && (length e.payload.cells == e.next - e.lowest))
 
+-- the pairs of all extents are right; the word is ours
 unfoldable pub are_right : {X : Type 0} → List (Extent (Cells X)) → Bool
 are_right [] = true
 are_right (e ∷ es) = is_right e && are_right es
@@ -100,17 +100,15 @@ map_stream f s = record {
   cells = map_cells f s.cells;
 }
 
+-- the stream of a resident value; the word is ours
 abbrev pub value_stream : {X : Type 0} → ℕ → List ℕ → Stream X
 value_stream flags value =
     record { flags = flags; is_resident = true; value = value; size = 0; valid = 0; cells = [] }
 
+-- the stream of clusters and holes; the word is ours
 abbrev pub runs_stream : {X : Type 0} → ℕ → ℕ → ℕ → List (Option X) → Stream X
 runs_stream flags size valid cells =
     record { flags = flags; is_resident = false; value = []; size = size; valid = valid; cells = cells }
-
--- the sizes fit so many VCNs of c bytes
-abbrev pub have_room : ℕ → ℕ → ℕ → ℕ → Bool
-have_room c vcns size valid = nat_le size (vcns * c) && nat_le valid size
 
 -- the stream of extents of record r that aren't resident, with these flags and sizes
 unfoldable pub stream_of_runs : {X : Type 0} → ℕ → ℕ → ℕ → ℕ → ℕ → List (Extent (Cells X))
@@ -127,27 +125,31 @@ stream_of c r (e ∷ es) =
     if e.is_resident then Ok (value_stream e.flags e.value) else stream_of_runs c r e.flags e.size e.valid (e ∷ es)
 
 -- the stream of the attributes of base record r
-unfoldable pub stream_in : {X : Type 0} → ℕ → ℕ → List (Part (Cells X)) → Result (Stream X) CatFault
-stream_in c r parts = do
-  _ ← must (not (has_list parts)) (cat.Damaged rule.C11 r)
-  stream_of c r (extents_of parts)
+unfoldable pub stream_in : {X : Type 0} → ℕ → ℕ → List (Attribute (Laid (Cells X))) → Result (Stream X) CatFault
+stream_in c r attributes = do
+  _ ← must (not (has_list attributes)) (cat.Damaged rule.C11 r)
+  stream_of c r (extents_of attributes)
 
--- the unnamed data stream of record r; it isn't there where the record isn't in use or is an extension record
-unfoldable pub gather : {X : Type 0} → ℕ → ℕ → Slot (Cells X) → Result (Stream X) CatFault
-gather c r slot = do
-  _ ← must slot.is_live (cat.NotFound (missing.Record r))
-  _ ← must slot.is_sound (cat.Damaged rule.C4 r)
-  _ ← must (slot.entry.head.base == 0) (cat.NotFound (missing.Record r))
-  stream_in c r slot.entry.parts
+-- the unnamed data stream of record r, which has this head and these attributes; an extension record has none
+unfoldable pub gather : {X : Type 0} → ℕ → ℕ → Head → List (Attribute (Laid (Cells X))) → Result (Stream X) CatFault
+gather c r head attributes = do
+  _ ← must (head.base == 0) (cat.NotFound (missing.Record r))
+  stream_in c r attributes
+
+-- the attributes with the cells that their pairs spell on a volume of n clusters; the word is ours
+abbrev pub with_cells : ℕ → List (Attribute (Laid (List ℕ))) → List (Attribute (Laid (Cells ℕ)))
+with_cells n attributes = map (λ a. record { face = a.face; payload = map_laid (cells_below n) a.payload }) attributes
 
 -- ---- what views show of it
+
+-- what is shown of a record's attributes; the word is ours
+abbrev pub shown_attributes : FileRecord → List Shown
+shown_attributes file = map shown_placed (placed_of file)
 
 -- an attribute is the one that is wanted
 abbrev pub is_wanted : Wanted → Shown → Bool
 is_wanted wanted.List shown = is_list shown.kind
 is_wanted wanted.Data shown = is_data shown.kind shown.name
-is_wanted wanted.Table shown =
-    is_data shown.kind shown.name && (not shown.body.is_resident && (shown.body.lowest == 0))
 
 -- the extent that an attribute is, with what its pairs stand for
 abbrev pub shown_extent : {P : Type 0} → (List ℕ → P) → Shown → Extent P

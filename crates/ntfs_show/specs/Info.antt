@@ -8,6 +8,7 @@ use Rattle.ntfs_boot.specs.declared.geometry.Geometry.{Geometry}
 use Rattle.ntfs_show.specs.declared.info.Label.{Label}
 use Rattle.ntfs_show.specs.declared.info.Label.TheVariants.{SectorSize, ClusterSize, RecordSize, IndexBlockSize, Sectors, Clusters, MftCluster, MirrorCluster, Serial}
 
+-- the text in front of each value; the word is ours
 unfoldable pub label_text : Label → List ℕ
 label_text SectorSize = codes "sector size: "
 label_text ClusterSize = codes "cluster size: "
@@ -31,6 +32,7 @@ number_line label n = (label_text label ++ decimal n) ++ line_end
 abbrev pub serial_line : ℕ → List ℕ
 serial_line n = (label_text Serial ++ encode_lower (to_be_bytes w64 n)) ++ line_end
 
+-- the nine lines of a geometry; the word is ours
 unfoldable pub info_lines : Geometry → List ℕ
 info_lines g =
     number_line SectorSize g.sector

@@ -5,10 +5,7 @@ pub use Rattle.ntfs_base.specs.Sink
 pub use Rattle.ntfs_boot.specs.Geometry
 pub mod Info
 pub mod Fault
-pub mod Records
-pub mod Cells
 pub mod Gather
-pub mod MftMap
 pub mod StreamBytes
 pub mod Cat
 pub mod Putting

@@ -1,29 +1,16 @@
 -- The bytes of a stream: the value of a resident one, or the first bytes of its clusters, with zeros in holes and from
 -- the initialised size on (the Linux-NTFS documentation, "$DATA" and "Attribute Header"; the words are ours).
 use Rattle.std.specs.Prelude.{◌≡◌, ◌-◌, ◌/◌, ◌%◌, ◌==◌, ◌&&◌, ℕ, Bool, List, [], ◌∷◌, ◌++◌, take, min, replicate, Option, Some, None, if◌then◌else◌}
+use Rattle.ntfs_volume.specs.StreamBytes.{cell_bytes, runs_bytes}
 use Rattle.ntfs_show.specs.Gather.{Stream}
 
 -- the flags of a stream that is neither compressed nor encrypted: a low byte of 0, and no 0x4000
 unfoldable pub is_plain : ℕ → Bool
 is_plain flags = (flags % 256 == 0) && (flags / 0x4000 % 2 == 0)
 
--- the bytes of a cell; a hole has c zeros
-abbrev pub cell_bytes : ℕ → Option (List ℕ) → List ℕ
-cell_bytes c None = replicate c 0
-cell_bytes c (Some bytes) = bytes
-
--- the bytes of cells in a row
-unfoldable pub cells_bytes : ℕ → List (Option (List ℕ)) → List ℕ
-cells_bytes c [] = []
-cells_bytes c (cell ∷ cells) = cell_bytes c cell ++ cells_bytes c cells
-
--- of an initialised size that isn't above the size: the initialised bytes, and then zeros
-unfoldable pub runs_bytes : ℕ → ℕ → ℕ → List (Option (List ℕ)) → List ℕ
-runs_bytes c size valid cells = take valid (cells_bytes c cells) ++ replicate (size - valid) 0
-
 -- the bytes of a stream whose clusters have c bytes
-unfoldable pub stream_bytes : ℕ → Stream (List ℕ) → List ℕ
-stream_bytes c s = if s.is_resident then s.value else runs_bytes c s.size s.valid s.cells
+unfoldable pub bytes_of_stream : ℕ → Stream (List ℕ) → List ℕ
+bytes_of_stream c s = if s.is_resident then s.value else runs_bytes c s.size s.valid s.cells
 
 -- a cell as it is shown, where so many bytes from its first on are initialised
 abbrev pub shown_cell : ℕ → ℕ → Option (List ℕ) → List ℕ

@@ -1,5 +1,5 @@
 use ntfs_base::{Failed, Missing, PutFault, Rule};
-use ntfs_boot::ImageFault;
+use ntfs_volume::VolumeFault;
 use std::alloc::AllocError;
 
 /// Why the stream of a record wasn't read whole.
@@ -20,22 +20,6 @@ pub enum CatFault {
     ReadFault,
     WriteFault,
     NoMemory,
-}
-
-impl From<ImageFault> for CatFault {
-    ghost use Rattle.std.specs.Prelude.{◌≡◌};
-    ghost use Rattle.ntfs_show.specs.Cat.{geometry_fault};
-
-    ghost from_gives = { λ fault cat. cat ≡ geometry_fault fault };
-
-    fn from(fault: ImageFault) -> CatFault {
-        match fault {
-            ImageFault::NotNtfs => CatFault::NotNtfs,
-            ImageFault::BadGeometry { field, value } => CatFault::BadGeometry { field, value },
-            ImageFault::ImageShort { len, need } => CatFault::ImageShort { len, need },
-            ImageFault::ReadFault => CatFault::ReadFault,
-        }
-    }
 }
 
 impl From<PutFault> for CatFault {
@@ -75,9 +59,38 @@ impl From<AllocError> for CatFault {
 }
 
 ghost use Rattle.std.specs.Prelude.{◌≡◌};
+ghost use Rattle.ntfs_show.specs.Cat.{volume_refusal};
+
+/// The refusal of a volume, where the record of a number is asked for.
+pub(crate) fn volume_refusal(fault: VolumeFault, number: u64) -> CatFault
+    ensures { result ≡ volume_refusal number fault }
+{
+    match fault {
+        VolumeFault::NotNtfs => CatFault::NotNtfs,
+        VolumeFault::BadGeometry { field, value } => CatFault::BadGeometry { field, value },
+        VolumeFault::ImageShort { len, need } => CatFault::ImageShort { len, need },
+        VolumeFault::Damaged { rule, number } => CatFault::Damaged { rule, number },
+        VolumeFault::Absent => no_record(number),
+        VolumeFault::NoAttribute => CatFault::NotFound {
+            what: Missing::Stream,
+        },
+        VolumeFault::ReadFault => CatFault::ReadFault,
+        VolumeFault::WriteFault => CatFault::WriteFault,
+        VolumeFault::NoMemory => CatFault::NoMemory,
+    }
+}
+
+/// There is no record of a number.
+pub(crate) fn no_record(number: u64) -> CatFault
+    ensures { result ≡ CatFault.NotFound (Missing.Record number) }
+{
+    CatFault::NotFound {
+        what: Missing::Record { number },
+    }
+}
 
 /// The volume breaks a rule at a record.
-pub(crate) fn damaged(rule: Rule, number: u64) -> CatFault
+pub(crate) fn damage_of(rule: Rule, number: u64) -> CatFault
     ensures { result ≡ CatFault.Damaged rule number }
 {
     CatFault::Damaged { rule, number }

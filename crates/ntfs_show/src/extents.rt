@@ -1,22 +1,20 @@
 //! The extents of a record's unnamed data, gathered.
 
-ghost use Rattle.std.specs.Prelude.{◌≡◌, ◌≤◌, ◌&&◌, ◌==◌, ◌++◌, ℕ, List, Some, [], true, map, IfOk, IfErr, OnOk};
+ghost use Rattle.std.specs.Prelude.{◌≡◌, ◌≤◌, ◌&&◌, ◌==◌, ◌++◌, ℕ, List, [], true, map, IfOk, IfErr, OnOk};
 ghost use Rattle.ntfs_base.specs.Frames.{Gives, IsJudged};
-ghost use Rattle.ntfs_record.specs.Entry.{map_parts};
-ghost use Rattle.ntfs_record.specs.Views.{shown_part, shown_view};
+ghost use Rattle.ntfs_record.specs.FileRecord.{attributes_of};
+ghost use Rattle.ntfs_record.specs.Views.{shown_view};
 ghost use Rattle.ntfs_runs.specs.Clusters.{vcns};
 ghost use Rattle.ntfs_show.specs.Cat.{cat_origin, stream_at};
-ghost use Rattle.ntfs_show.specs.Cells.{cells_below};
-ghost use Rattle.ntfs_show.specs.Gather.{AreRuns, IsPairsFault, IsReadable, JoinsFrom, TakesExtent, are_right, gather, have_room, is_right, shown_extent, shown_extents, shown_stream, stream_in, stream_of_runs};
-ghost use Rattle.ntfs_show.specs.Records.{IsViewOf, map_slot, own_slot, tells_own};
+ghost use Rattle.ntfs_runs.specs.Cells.{cells_below};
+ghost use Rattle.ntfs_show.specs.Gather.{AreRuns, IsPairsFault, IsReadable, JoinsFrom, TakesExtent, are_right, is_right, shown_attributes, shown_extent, shown_extents, shown_stream, stream_in, stream_of_runs, with_cells};
+ghost use Rattle.ntfs_volume.specs.StreamBytes.{have_room};
 
-use crate::cat_fault::{CatFault, damaged};
-use crate::cells::{append, are_cells, count_of, have_room};
-use crate::records::{SlotView, no_record};
+use crate::cat_fault::{CatFault, damage_of, no_record};
 use crate::wanted::{Wanted, first_of, is_wanted};
 use ntfs_base::{Missing, Rule};
 use ntfs_boot::Geometry;
-use ntfs_record::{AttributeView, Body, RecordView};
+use ntfs_record::{AttributeView, Body, RecordView, parse};
 use ntfs_runs::{PairsFault, Run, RunList, decode};
 use std::alloc::{AllocError, Global};
 
@@ -56,13 +54,30 @@ fn read_runs(
         Err(PairsFault::NoMemory) => Err(AllocError),
         Err(PairsFault::BadPairs { .. }) => Ok(None),
         Ok(list) => {
-            if are_cells(list.runs(), true, clusters) && count_of(list.runs()) == count {
+            if list.lies_below(true, clusters) && list.vcn_count() == count {
                 Ok(Some(list))
             } else {
                 Ok(None)
             }
         }
     }
+}
+
+/// Puts runs behind others.
+fn append(list: &mut RunList, runs: &[Run]) -> Result<(), AllocError>
+    ensures { OnOk result (vcns list.new ≡ vcns list.old ++ vcns runs.now) }
+{
+    'runs: for run in runs {
+        list.push(*run)?;
+    }
+    Ok(())
+}
+
+/// The sizes of a stream fit so many VCNs of a cluster's bytes.
+fn have_room(cluster: u32, vcns: u64, size: u64, valid: u64) -> bool
+    ensures { result ≡ have_room cluster vcns size valid }
+{
+    size <= vcns.saturating_mul(u64::from(cluster)) && valid <= size
 }
 
 impl Extents {
@@ -115,7 +130,7 @@ impl Extents {
                 pairs,
                 ..
             } => match read_runs(alloc, pairs, next - lowest, clusters)? {
-                None => Err(damaged(Rule::C7, number)),
+                None => Err(damage_of(Rule::C7, number)),
                 Some(runs) => Ok(self.join(lowest, next, runs.runs())?),
             },
         }
@@ -130,9 +145,9 @@ fn gather_extents(
     number: u64,
 ) -> Result<Extents, CatFault>
     ensures joins { IfOk result (λ all.
-        JoinsFrom clusters (shown_extents (cells_below clusters) (map shown_part view.now.parts)) all []) }
+        JoinsFrom clusters (shown_extents (cells_below clusters) (shown_attributes view.now)) all []) }
     ensures refusal { IfErr result (IsPairsFault number
-        (are_right (shown_extents (cells_below clusters) (map shown_part view.now.parts)))) }
+        (are_right (shown_extents (cells_below clusters) (shown_attributes view.now)))) }
 {
     let mut extents = Extents::new(alloc);
     'attributes: for attribute in view.attributes() {
@@ -161,13 +176,13 @@ fn runs_of<'a>(
     valid: u64,
 ) -> Result<Stream<'a>, CatFault>
     ensures gives { Gives cat_origin shown_stream (stream_of_runs geometry.now.cluster number flags size valid
-        (shown_extents (cells_below geometry.now.clusters) (map shown_part view.now.parts))) result }
+        (shown_extents (cells_below geometry.now.clusters) (shown_attributes view.now))) result }
     ensures readable { IfOk result (IsReadable geometry.now) }
     ensures judged { IsJudged cat_origin result }
 {
     let extents = gather_extents(alloc, view, geometry.clusters, number)?;
     if !fit(&extents, geometry.cluster, size, valid) {
-        return Err(damaged(Rule::C12, number));
+        return Err(damage_of(Rule::C12, number));
     }
     Ok(Stream::Runs {
         flags,
@@ -186,12 +201,12 @@ fn stream_in<'a>(
     number: u64,
 ) -> Result<Stream<'a>, CatFault>
     ensures gives { Gives cat_origin shown_stream
-        (stream_in geometry.now.cluster number (map_parts (cells_below geometry.now.clusters) view.now.parts)) result }
+        (stream_in geometry.now.cluster number (with_cells geometry.now.clusters (attributes_of view.now))) result }
     ensures readable { IfOk result (IsReadable geometry.now) }
     ensures judged { IsJudged cat_origin result }
 {
     if first_of(view, Wanted::List).is_some() {
-        return Err(damaged(Rule::C11, number));
+        return Err(damage_of(Rule::C11, number));
     }
     match first_of(view, Wanted::Data) {
         None => Err(CatFault::NotFound {
@@ -209,53 +224,25 @@ fn stream_in<'a>(
     }
 }
 
-fn tells_own(told: Option<u32>, number: u64) -> bool
-    ensures { result ≡ tells_own number told }
-{
-    match told {
-        None => true,
-        Some(own) => u64::from(own) == number,
-    }
-}
-
-/// The unnamed data stream of a record in use of which nothing but its number may be wrong.
-#[tactic(auto, using(crate::proofs::CatLemmas::own_steps))]
-fn gather_sound<'a>(
+/// The unnamed data stream of the record of these unfixed bytes.
+#[tactic(auto, using(crate::proofs::CatLemmas::block_steps))]
+pub(crate) fn stream_at<'a>(
     alloc: Global,
     geometry: &Geometry,
-    view: &RecordView<'a>,
+    block: &'a [u8],
     number: u64,
 ) -> Result<Stream<'a>, CatFault>
-    ensures gives { Gives cat_origin shown_stream (gather geometry.now.cluster number
-        (map_slot (cells_below geometry.now.clusters) (own_slot number view.now))) result }
+    ensures gives { Gives cat_origin shown_stream (stream_at geometry.now number block.now) result }
     ensures readable { IfOk result (IsReadable geometry.now) }
     ensures judged { IsJudged cat_origin result }
 {
-    if !tells_own(view.number(), number) {
-        return Err(damaged(Rule::C4, number));
-    }
-    if view.base() != 0 {
-        return Err(no_record(number));
-    }
-    stream_in(alloc, geometry, view, number)
-}
-
-/// The unnamed data stream of the record of this number.
-#[tactic(auto, using(crate::proofs::CatLemmas::slot_steps))]
-pub(crate) fn gather<'a>(
-    alloc: Global,
-    geometry: &Geometry,
-    slot: &SlotView<'a>,
-    number: u64,
-) -> Result<Stream<'a>, CatFault>
-    ensures gives { (raw : List ℕ) → IsViewOf raw slot.now
-        → Gives cat_origin shown_stream (stream_at geometry.now number (Some raw)) result }
-    ensures readable { IfOk result (IsReadable geometry.now) }
-    ensures judged { IsJudged cat_origin result }
-{
-    match slot {
-        SlotView::Idle => Err(no_record(number)),
-        SlotView::Unsound => Err(damaged(Rule::C4, number)),
-        SlotView::Sound { view } => gather_sound(alloc, geometry, view, number),
+    match parse(block) {
+        Err(_) => Err(damage_of(Rule::C4, number)),
+        Ok(view) => {
+            if view.base() != 0 {
+                return Err(no_record(number));
+            }
+            stream_in(alloc, geometry, &view, number)
+        }
     }
 }

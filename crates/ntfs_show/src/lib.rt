@@ -3,13 +3,9 @@
 
 mod cat;
 mod cat_fault;
-mod cells;
 mod extents;
 mod fault;
 mod info;
-mod mft_map;
-mod pieces;
-mod records;
 mod stream;
 mod wanted;
 

@@ -1,24 +1,30 @@
 //! The bytes of a stream, put piece by piece.
 
-ghost use Rattle.std.specs.Prelude.{◌≡◌, ◌≤◌, ◌<◌, ◌+◌, ◌*◌, ◌-◌, ◌++◌, Ok, true, length, take, replicate, IfSome, OnOk};
+ghost use Rattle.std.specs.Prelude.{◌≡◌, ◌≤◌, ◌<◌, ◌+◌, ◌*◌, ◌-◌, ◌++◌, Ok, true, length, vec_len, take, replicate, IfOk, IfSome, OnOk};
 ghost use Rattle.std.specs.Option.{option_map};
 ghost use Rattle.ntfs_base.specs.Bytes.{cluster_at};
 ghost use Rattle.ntfs_base.specs.Frames.{Copies, Gives, IfTold, OnlyReads, Puts};
 ghost use Rattle.ntfs_boot.specs.Geometry.{IsOpened};
 ghost use Rattle.ntfs_runs.specs.Clusters.{behind, row, vcns};
 ghost use Rattle.ntfs_show.specs.Cat.{cat_origin, filled_stream};
-ghost use Rattle.ntfs_show.specs.Cells.{are_cells, map_cells};
+ghost use Rattle.ntfs_runs.specs.Cells.{are_cells, map_cells};
 ghost use Rattle.ntfs_show.specs.Gather.{IsReadable, shown_stream};
 ghost use Rattle.ntfs_show.specs.Putting.{IsLeftBehind};
-ghost use Rattle.ntfs_show.specs.StreamBytes.{HasNoBytes, pieces, shown_cell, stream_bytes};
+ghost use Rattle.ntfs_show.specs.StreamBytes.{HasNoBytes, pieces, shown_cell, bytes_of_stream};
 
 use crate::cat_fault::CatFault;
 use crate::extents::Stream;
-use crate::mft_map::zeros;
 use ntfs_base::{Image, Sink};
 use ntfs_boot::Geometry;
 use ntfs_runs::Run;
-use std::alloc::Global;
+use std::alloc::{AllocError, Global};
+
+/// So many bytes of 0.
+pub(crate) fn zeros(alloc: Global, count: usize) -> Result<Vec<u8>, AllocError>
+    ensures { IfOk result (λ bytes. vec_len bytes ≡ count) }
+{
+    vec![in alloc; 0; count]
+}
 
 /// How many bytes of a stream remain to be put, and how many of them are initialised.
 #[derive(Clone, Copy)]
@@ -158,7 +164,7 @@ pub(crate) fn put_stream<G: Image, K: Sink>(
     requires opened { IsOpened (G.seen image.old).size geometry.now }
     requires readable { IsReadable geometry.now stream.now }
     ensures told { IfTold G.Image image.old (λ content. Puts cat_origin
-        (Ok (stream_bytes geometry.now.cluster (filled_stream geometry.now content (shown_stream stream.now))))
+        (Ok (bytes_of_stream geometry.now.cluster (filled_stream geometry.now content (shown_stream stream.now))))
         (K.seen out.old) result (K.seen out.new)) }
     ensures copies { Copies G.Image K.Sink cat_origin image.old image.new out.old out.new result }
 {

@@ -185,13 +185,13 @@ fn with_stream(alloc: Global, told: Runs<'_>) -> Result<Vec<u8>, AllocError> {
     Ok(bytes)
 }
 
-fn refused(rt: &impl Abort, alloc: Global, bytes: Vec<u8>, number: u64, fault: CatFault) {
+fn refuses(rt: &impl Abort, alloc: Global, bytes: Vec<u8>, number: u64, fault: CatFault) {
     let (result, put) = answer(alloc, bytes, number);
     assert_eq!(rt; result, Err(fault));
     assert_eq!(rt; put.len(), 0);
 }
 
-fn damaged(rule: Rule, number: u64) -> CatFault {
+fn damage_of(rule: Rule, number: u64) -> CatFault {
     CatFault::Damaged { rule, number }
 }
 
@@ -234,15 +234,15 @@ fn a_value_and_two_runs_are_put(rt: HostRuntime) -> Result<(), Fail> {
 fn records_that_are_not_there(rt: HostRuntime) -> Result<(), Fail> {
     let alloc = rt.alloc();
     for number in [18, 32, u64::MAX] {
-        refused(&rt, alloc, volume(alloc)?, number, no_record(number));
+        refuses(&rt, alloc, volume(alloc)?, number, no_record(number));
     }
     // The flag of a record in use, and the base reference.
     let mut bytes = volume(alloc)?;
     patch(&mut bytes, record_at(16) + 0x16, &[2]);
-    refused(&rt, alloc, bytes, 16, no_record(16));
+    refuses(&rt, alloc, bytes, 16, no_record(16));
     let mut bytes = volume(alloc)?;
     patch(&mut bytes, record_at(16) + 0x20, &[5]);
-    refused(&rt, alloc, bytes, 16, no_record(16));
+    refuses(&rt, alloc, bytes, 16, no_record(16));
     // Record 17 lies behind the initialised size of $MFT.
     let mut bytes = volume(alloc)?;
     let table = Runs {
@@ -250,13 +250,13 @@ fn records_that_are_not_there(rt: HostRuntime) -> Result<(), Fail> {
         ..TABLE
     };
     stream(&mut bytes, 0, table);
-    refused(&rt, alloc, bytes, 17, no_record(17));
+    refuses(&rt, alloc, bytes, 17, no_record(17));
     let mut bytes = volume(alloc)?;
     hello(&mut bytes, 16, 0x70, [0, 0]);
     let fault = CatFault::NotFound {
         what: Missing::Stream,
     };
-    refused(&rt, alloc, bytes, 16, fault);
+    refuses(&rt, alloc, bytes, 16, fault);
     Ok(())
 }
 
@@ -332,7 +332,7 @@ fn extents_of_one_record_join(rt: HostRuntime) -> Result<(), Fail> {
             push(&mut want, 49, 76, 0)?;
             assert_eq!(rt; result, Ok(()));
         } else {
-            assert_eq!(rt; result, Err(damaged(Rule::C12, 20)));
+            assert_eq!(rt; result, Err(damage_of(Rule::C12, 20)));
         }
         assert_eq!(rt; put.as_slice(), want.as_slice());
     }
@@ -413,11 +413,11 @@ const BROKEN: [(Runs<'static>, CatFault); 8] = [
 fn broken_streams_are_refused(rt: HostRuntime) -> Result<(), Fail> {
     let alloc = rt.alloc();
     for (told, fault) in BROKEN {
-        refused(&rt, alloc, with_stream(alloc, told)?, 20, fault);
+        refuses(&rt, alloc, with_stream(alloc, told)?, 20, fault);
     }
     let mut bytes = volume(alloc)?;
     hello(&mut bytes, 16, 0x80, [0, 0x40]);
-    refused(&rt, alloc, bytes, 16, CatFault::NotPlain { flags: 0x4000 });
+    refuses(&rt, alloc, bytes, 16, CatFault::NotPlain { flags: 0x4000 });
     Ok(())
 }
 
@@ -434,7 +434,7 @@ fn broken_records_are_refused(rt: HostRuntime) -> Result<(), Fail> {
     for (place, text, rule) in cases {
         let mut bytes = volume(alloc)?;
         patch(&mut bytes, record_at(17) + place, &text);
-        refused(&rt, alloc, bytes, 17, damaged(rule, 17));
+        refuses(&rt, alloc, bytes, 17, damage_of(rule, 17));
     }
     // The same of record 0; its own number isn't tested.
     for (place, text, _) in cases {
@@ -443,9 +443,81 @@ fn broken_records_are_refused(rt: HostRuntime) -> Result<(), Fail> {
         if place == 0x2C {
             assert_eq!(rt; answer(alloc, bytes, 17).0, Ok(()));
         } else {
-            refused(&rt, alloc, bytes, 17, damaged(Rule::C3, 0));
+            refuses(&rt, alloc, bytes, 17, damage_of(Rule::C3, 0));
         }
     }
+    Ok(())
+}
+
+/// An entry of a list: unnamed data of this lowest VCN, in this record.
+fn entry(bytes: &mut [u8], at: usize, lowest: u8, number: u8) {
+    patch(bytes, at, &[0; 32]);
+    patch(bytes, at, &[0x80, 0, 0, 0, 32, 0, 0, 26, lowest]);
+    patch(
+        bytes,
+        at.saturating_add(0x10),
+        &[number, 0, 0, 0, 0, 0, 1, 0],
+    );
+}
+
+/// The volume with $MFT in two extents: VCNs 0 to 19 in record 0, the others, from cluster 52 on, in record 15. Record
+/// 20, with which the second begins, has a text.
+fn listed_volume(alloc: Global, lowest: u8) -> Result<Vec<u8>, AllocError> {
+    let mut bytes = volume(alloc)?;
+    let first = Runs {
+        next: 20,
+        pairs: &[0x11, 0x14, 0x04, 0x00],
+        ..TABLE
+    };
+    let more = Runs {
+        lowest: 20,
+        size: 0,
+        valid: 0,
+        pairs: &[0x11, 0x0C, 0x34, 0x00],
+        ..TABLE
+    };
+    begin(&mut bytes, 0, 1);
+    let at = record_at(0) + 56;
+    patch(&mut bytes, at, &[0x20, 0, 0, 0, 88, 0, 0, 0, 0, 0, 24, 0]);
+    patch(&mut bytes, at + 0x10, &[64, 0, 0, 0, 24, 0, 0, 0]);
+    entry(&mut bytes, at + 24, 0, 0);
+    entry(&mut bytes, at + 56, lowest, 15);
+    attribute(&mut bytes, 0, 144, first);
+    end(&mut bytes, 0, 216);
+    stream(&mut bytes, 15, more);
+    patch(&mut bytes, record_at(15) + 0x20, &[0, 0, 0, 0, 0, 0, 1, 0]);
+    hello(&mut bytes, 48, 0x80, [0, 0]);
+    patch(&mut bytes, record_at(48) + 0x2C, &[20]);
+    Ok(bytes)
+}
+
+#[test]
+fn records_are_found_by_the_list_of_record_0(rt: HostRuntime) -> Result<(), Fail> {
+    let alloc = rt.alloc();
+    for number in [16, 20] {
+        let (result, put) = answer(alloc, listed_volume(alloc, 20)?, number);
+        assert_eq!(rt; result, Ok(()));
+        assert_eq!(rt; put.as_slice(), b"hello, ntfs\n".as_slice());
+    }
+    // Record 0 and record 15 themselves, an extent that doesn't follow, and pairs that aren't right.
+    refuses(
+        &rt,
+        alloc,
+        listed_volume(alloc, 20)?,
+        0,
+        damage_of(Rule::C11, 0),
+    );
+    refuses(&rt, alloc, listed_volume(alloc, 20)?, 15, no_record(15));
+    refuses(
+        &rt,
+        alloc,
+        listed_volume(alloc, 21)?,
+        16,
+        damage_of(Rule::C3, 0),
+    );
+    let mut bytes = listed_volume(alloc, 20)?;
+    patch(&mut bytes, record_at(15) + 120, &[0x91]);
+    refuses(&rt, alloc, bytes, 16, damage_of(Rule::C3, 15));
     Ok(())
 }
 
@@ -487,20 +559,20 @@ fn broken_maps_are_refused(rt: HostRuntime) -> Result<(), Fail> {
     for table in cases {
         let mut bytes = volume(alloc)?;
         stream(&mut bytes, 0, table);
-        refused(&rt, alloc, bytes, 16, damaged(Rule::C3, 0));
+        refuses(&rt, alloc, bytes, 16, damage_of(Rule::C3, 0));
     }
     let mut bytes = volume(alloc)?;
     hello(&mut bytes, 0, 0x80, [0, 0]);
-    refused(&rt, alloc, bytes, 16, damaged(Rule::C3, 0));
+    refuses(&rt, alloc, bytes, 16, damage_of(Rule::C3, 0));
     let mut bytes = volume(alloc)?;
     patch(&mut bytes, record_at(0) + 0x16, &[0]);
-    refused(&rt, alloc, bytes, 16, damaged(Rule::C3, 0));
+    refuses(&rt, alloc, bytes, 16, damage_of(Rule::C3, 0));
     let mut bytes = volume(alloc)?;
     patch(&mut bytes, 3, b"X");
-    refused(&rt, alloc, bytes, 16, CatFault::NotNtfs);
+    refuses(&rt, alloc, bytes, 16, CatFault::NotNtfs);
     let mut bytes = volume(alloc)?;
     patch(&mut bytes, 0x40, &[0xF0]);
-    refused(
+    refuses(
         &rt,
         alloc,
         bytes,
@@ -511,7 +583,7 @@ fn broken_maps_are_refused(rt: HostRuntime) -> Result<(), Fail> {
         },
     );
     let bytes = vec![in alloc; 0; 100]?;
-    refused(
+    refuses(
         &rt,
         alloc,
         bytes,
@@ -564,6 +636,55 @@ fn each_put_failing_alone_leaves_a_front(rt: HostRuntime) -> Result<(), Fail> {
         );
         assert_eq!(rt; out.content.as_slice(), want.as_slice());
     }
+    Ok(())
+}
+
+#[test]
+fn the_put_of_a_value_failing_leaves_a_front(rt: HostRuntime) -> Result<(), Fail> {
+    let alloc = rt.alloc();
+    for (leaves, want) in [
+        (Leaves::Front { bytes: 3 }, b"hel".as_slice()),
+        (Leaves::Before, b"".as_slice()),
+    ] {
+        let mut image = MemImage::new(alloc, volume(alloc)?);
+        let mut out = MemSink::new(alloc);
+        out.calls.fail(alloc, 1, leaves)?;
+        assert_eq!(rt;
+            cat(alloc, &mut image, 16, &mut out),
+            Err(CatFault::WriteFault)
+        );
+        assert_eq!(rt; out.content.as_slice(), want);
+        assert_eq!(rt; out.calls.made, 1);
+    }
+    Ok(())
+}
+
+#[test]
+fn each_put_of_a_longer_stream_failing_alone_is_a_write_fault(rt: HostRuntime) -> Result<(), Fail> {
+    let alloc = rt.alloc();
+    // A hole and three clusters, of the last of which 500 bytes are put.
+    let told = Runs {
+        flags: 0x8000,
+        next: 4,
+        size: 3572,
+        valid: 3572,
+        pairs: &[0x01, 0x01, 0x11, 0x03, 0x30, 0x00],
+        ..TWO
+    };
+    for (number, count) in [(1, 7), (2, 1031), (3, 2055), (4, 3079)] {
+        let mut image = MemImage::new(alloc, with_stream(alloc, told)?);
+        let mut out = MemSink::new(alloc);
+        out.calls.fail(alloc, number, Leaves::Front { bytes: 7 })?;
+        assert_eq!(rt;
+            cat(alloc, &mut image, 20, &mut out),
+            Err(CatFault::WriteFault)
+        );
+        assert_eq!(rt; out.content.len(), count);
+        assert_eq!(rt; out.calls.made, number);
+    }
+    let (result, put) = answer(alloc, with_stream(alloc, told)?, 20);
+    assert_eq!(rt; result, Ok(()));
+    assert_eq!(rt; put.len(), 3572);
     Ok(())
 }
 

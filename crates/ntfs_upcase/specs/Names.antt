@@ -1,6 +1,6 @@
--- The units of a name, and the text that they spell. A name is a list of bytes in UTF-16LE, as the value of `$FILE_NAME` and
--- the key of an entry of `$I30` have it (the Linux-NTFS documentation, "$FILE_NAME", "Filename in Unicode"). A byte is a
--- number below 256, and a last odd byte is no unit.
+-- The units of a name, and the text that they spell. A name is a list of bytes in UTF-16LE, as the value of
+-- `$FILE_NAME` and the key of an entry of `$I30` have it (the Linux-NTFS documentation, "$FILE_NAME", "Filename in
+-- Unicode"). A byte is a number below 256, and a last odd byte is no unit.
 use Rattle.std.specs.Prelude.{ℕ, List, [], ◌∷◌}
 use Rattle.std.specs.List.{flat_map}
 use Rattle.std.specs.Char.Escape.{encode_utf16}
@@ -19,11 +19,12 @@ units (low ∷ high ∷ rest) = number_at 2 0 (low ∷ high ∷ rest) ∷ units 
 unfoldable pub unit_bytes : List ℕ → List ℕ
 unit_bytes us = flat_map (little_bytes 2) us
 
--- the bytes in UTF-8 of the text that a name spells, with U+FFFD for each surrogate that has no partner (Unicode, "UTF-16");
--- the word is ours
+-- the bytes in UTF-8 of the text that a name spells, with U+FFFD for each surrogate that has no partner (Unicode,
+-- "UTF-16"); the word is ours
 unfoldable pub text_bytes : List ℕ → List ℕ
 text_bytes name = encode_utf8_all (utf16_lossy_chars (units name))
 
--- the bytes of the name that a text in UTF-8 spells: the units of each of its characters (Unicode, "UTF-16"); the word is ours
+-- the bytes of the name that a text in UTF-8 spells: the units of each of its characters (Unicode, "UTF-16"); the
+-- word is ours
 unfoldable pub name_bytes : List ℕ → List ℕ
 name_bytes text = unit_bytes (flat_map encode_utf16 (chars text))

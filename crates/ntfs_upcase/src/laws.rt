@@ -16,8 +16,8 @@ pub fn names_are_units()
         → slice_index (units name) i ≡ number_at 2 (2 * i) name }
 {}
 
-/// Under every table the comparison is a total order on names as the table sees them: it is reflexive and transitive, says
-/// the opposite of a pair turned round, and tells two names apart exactly where their mapped units differ.
+/// Under every table the comparison is a total order on names as the table sees them: it is reflexive and transitive,
+/// says the opposite of a pair turned round, and tells two names apart exactly where their mapped units differ.
 pub fn collation_is_a_total_order()
     ensures order { (table : List ℕ) → IsTotalOrder (collate table) }
     ensures reflexive { (table a : List ℕ) → collate table a a ≡ Ordering.Equal }

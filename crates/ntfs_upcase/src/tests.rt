@@ -1,5 +1,5 @@
-// The table below maps some units as Unicode's simple upper-case mappings do, and each other unit to itself. The units and
-// bytes of the texts are Unicode's; the broken text is the example of Rust's `String::from_utf16_lossy`.
+// The table below maps some units as Unicode's simple upper-case mappings do, and each other unit to itself. The
+// units and bytes of the texts are Unicode's; the broken text is the example of Rust's `String::from_utf16_lossy`.
 ghost use Rattle.std.specs.Prelude.{◌≡◌, vec_len, IfOk};
 
 use crate::{UpCase, text_of, units_of};
@@ -102,8 +102,8 @@ fn a_lone_surrogate_is_replaced(rt: HostRuntime) -> Result<(), Fail> {
     Ok(())
 }
 
-/// Makes a name, its text and a table: whether all came, each whole. `tools/refused_memory.py` has each allocation of it refused in
-/// turn.
+/// Makes a name, its text and a table: whether all came, each whole. `tools/refused_memory.py` has each allocation of
+/// it refused in turn.
 fn naming_is_whole(rt: &impl Abort, host: &HostRuntime) -> Result<bool, Fail> {
     let alloc = host.alloc();
     let Ok(name) = units_of(alloc, "a€𝄞") else {

@@ -81,7 +81,8 @@ impl MemContent {
         Ok(())
     }
 
-    /// Cuts the bytes to a length, or extends them with zeros. A call that is to fail leaves them as they were, or as asked.
+    /// Cuts the bytes to a length, or extends them with zeros. A call that is to fail leaves them as they were, or as
+    /// asked.
     pub fn set_len(&mut self, len: u64) -> Result<(), PutFault>
         ensures memory { SetsMemory len self.old result self.new }
         ensures numbered { IsNumbered self.old self.new }
@@ -116,12 +117,12 @@ impl MemContent {
 }
 
 ghost use Rattle.std.specs.Prelude.{◌≡◌, ◌<◌, length, OnOk, OnErr, IfErr};
-ghost use Rattle.ntfs_base.specs.Growth.{resized};
+ghost use Rattle.ntfs_base.specs.Growth.{resize_of};
 
 /// Cuts the bytes to a length, or extends them with zeros. Where memory is wanting they stay.
-#[tactic(auto, unfolding(crate::specs::Growth::resized))]
+#[tactic(auto, unfolding(crate::specs::Growth::resize_of))]
 fn resize(bytes: &mut Vec<u8>, len: u64) -> Result<(), PutFault>
-    ensures resized { OnOk result (bytes.new.items ≡ resized len bytes.old.items) }
+    ensures resize_of { OnOk result (bytes.new.items ≡ resize_of len bytes.old.items) }
     ensures wanting { IfErr result (λ fault. fault ≡ PutFault.NoMemory) }
     ensures longer { OnErr result (length bytes.old.items < len) }
     ensures same { OnErr result (bytes.new.items ≡ bytes.old.items) }

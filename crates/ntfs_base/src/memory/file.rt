@@ -12,11 +12,12 @@ pub struct MemFile {
 ghost use Rattle.std.specs.Prelude.{◌≡◌, ◌+◌, ◌≤◌, [], ◌∷◌, length, slice_range, string_bytes, IsTrue, OnOk, IfErr, refl};
 ghost use Rattle.ntfs_base.specs.Causes.{ReadCause, WriteCause, GrowthCause};
 ghost use Rattle.ntfs_base.specs.Growth.{SetLength, Appended, KeepsFile};
-ghost use Rattle.ntfs_base.specs.Memory.{ReadsMemory, WritesMemory, SyncsMemory, SetsMemory, AppendsMemory, IsNumbered, seen_of};
+ghost use Rattle.ntfs_base.specs.Memory.{ReadsMemory, WritesMemory, SyncsMemory, SetsMemory, AppendsMemory, IsNumbered};
+ghost use Rattle.ntfs_base.specs.MemShelf.{seen_mem_file};
 ghost use Rattle.ntfs_base.specs.Writes.{Wrote};
 
 impl Image for MemFile {
-    ghost seen = { λ image. seen_of (string_bytes image.name) image.inside };
+    ghost seen = { λ image. seen_mem_file image };
 
     ghost faults = { λ image. image.inside.faults };
 
@@ -27,9 +28,10 @@ impl Image for MemFile {
     }
 
     fn read_at(&mut self, at: u64, into: &mut [u8]) -> Result<(), Failed>
-        requires { at + length into.old ≤ (seen_of (string_bytes self.old.name) self.old.inside).size }
-        ensures bytes { OnOk result (IsTrue (seen_of (string_bytes self.old.name) self.old.inside).is_told → into.new ≡ slice_range (seen_of (string_bytes self.old.name) self.old.inside).content at (at + length into.old)) }
-        ensures seen { seen_of (string_bytes self.new.name) self.new.inside ≡ seen_of (string_bytes self.old.name) self.old.inside }
+        requires { at + length into.old ≤ (seen_mem_file self.old).size }
+        ensures bytes { OnOk result (IsTrue (seen_mem_file self.old).is_told
+            → into.new ≡ slice_range (seen_mem_file self.old).content at (at + length into.old)) }
+        ensures seen { seen_mem_file self.new ≡ seen_mem_file self.old }
         ensures cause { ReadCause self.old.inside.faults self.new.inside.faults result }
         ensures memory { ReadsMemory self.old.inside result self.new.inside }
         ensures name { self.new.name ≡ self.old.name }
@@ -38,17 +40,19 @@ impl Image for MemFile {
     }
 
     fn write_at(&mut self, at: u64, bytes: &[u8]) -> Result<(), Failed>
-        requires { at + length bytes.now ≤ (seen_of (string_bytes self.old.name) self.old.inside).size }
-        ensures wrote { Wrote (record { place = at; bytes = bytes.now } ∷ []) (seen_of (string_bytes self.old.name) self.old.inside) result (seen_of (string_bytes self.new.name) self.new.inside) }
+        requires { at + length bytes.now ≤ (seen_mem_file self.old).size }
+        ensures wrote { Wrote (record { place = at; bytes = bytes.now } ∷ []) (seen_mem_file self.old) result
+            (seen_mem_file self.new) }
         ensures cause { WriteCause self.old.inside.faults self.new.inside.faults result }
-        ensures memory { WritesMemory (record { place = at; bytes = bytes.now }) self.old.inside result self.new.inside }
+        ensures memory { WritesMemory (record { place = at; bytes = bytes.now }) self.old.inside result
+            self.new.inside }
         ensures name { self.new.name ≡ self.old.name }
     {
         self.inside.write(at, bytes)
     }
 
     fn sync(&mut self) -> Result<(), Failed>
-        ensures seen { seen_of (string_bytes self.new.name) self.new.inside ≡ seen_of (string_bytes self.old.name) self.old.inside }
+        ensures seen { seen_mem_file self.new ≡ seen_mem_file self.old }
         ensures cause { WriteCause self.old.inside.faults self.new.inside.faults result }
         ensures memory { SyncsMemory self.old.inside result self.new.inside }
         ensures name { self.new.name ≡ self.old.name }
@@ -59,8 +63,8 @@ impl Image for MemFile {
 
 impl HostFile for MemFile {
     fn set_len(&mut self, len: u64) -> Result<(), PutFault>
-        ensures set { SetLength len (seen_of (string_bytes self.old.name) self.old.inside) result (seen_of (string_bytes self.new.name) self.new.inside) }
-        ensures nothing { IfErr result (λ fault. KeepsFile fault (seen_of (string_bytes self.old.name) self.old.inside) (seen_of (string_bytes self.new.name) self.new.inside)) }
+        ensures set { SetLength len (seen_mem_file self.old) result (seen_mem_file self.new) }
+        ensures nothing { IfErr result (λ fault. KeepsFile fault (seen_mem_file self.old) (seen_mem_file self.new)) }
         ensures cause { GrowthCause self.old.inside.faults self.new.inside.faults result }
         ensures memory { SetsMemory len self.old.inside result self.new.inside }
         ensures numbered { IsNumbered self.old.inside self.new.inside }
@@ -70,8 +74,8 @@ impl HostFile for MemFile {
     }
 
     fn append(&mut self, bytes: &[u8]) -> Result<(), PutFault>
-        ensures appended { Appended bytes.now (seen_of (string_bytes self.old.name) self.old.inside) result (seen_of (string_bytes self.new.name) self.new.inside) }
-        ensures nothing { IfErr result (λ fault. KeepsFile fault (seen_of (string_bytes self.old.name) self.old.inside) (seen_of (string_bytes self.new.name) self.new.inside)) }
+        ensures appended { Appended bytes.now (seen_mem_file self.old) result (seen_mem_file self.new) }
+        ensures nothing { IfErr result (λ fault. KeepsFile fault (seen_mem_file self.old) (seen_mem_file self.new)) }
         ensures cause { GrowthCause self.old.inside.faults self.new.inside.faults result }
         ensures memory { AppendsMemory bytes.now self.old.inside result self.new.inside }
         ensures numbered { IsNumbered self.old.inside self.new.inside }

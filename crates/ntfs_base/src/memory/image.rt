@@ -44,7 +44,8 @@ impl Image for MemImage {
 
     fn read_at(&mut self, at: u64, into: &mut [u8]) -> Result<(), Failed>
         requires { at + length into.old ≤ (seen_of [] self.old.inside).size }
-        ensures bytes { OnOk result (IsTrue (seen_of [] self.old.inside).is_told → into.new ≡ slice_range (seen_of [] self.old.inside).content at (at + length into.old)) }
+        ensures bytes { OnOk result (IsTrue (seen_of [] self.old.inside).is_told
+            → into.new ≡ slice_range (seen_of [] self.old.inside).content at (at + length into.old)) }
         ensures seen { seen_of [] self.new.inside ≡ seen_of [] self.old.inside }
         ensures cause { ReadCause self.old.inside.faults self.new.inside.faults result }
         ensures memory { ReadsMemory self.old.inside result self.new.inside }
@@ -54,9 +55,11 @@ impl Image for MemImage {
 
     fn write_at(&mut self, at: u64, bytes: &[u8]) -> Result<(), Failed>
         requires { at + length bytes.now ≤ (seen_of [] self.old.inside).size }
-        ensures wrote { Wrote (record { place = at; bytes = bytes.now } ∷ []) (seen_of [] self.old.inside) result (seen_of [] self.new.inside) }
+        ensures wrote { Wrote (record { place = at; bytes = bytes.now } ∷ []) (seen_of [] self.old.inside) result
+            (seen_of [] self.new.inside) }
         ensures cause { WriteCause self.old.inside.faults self.new.inside.faults result }
-        ensures memory { WritesMemory (record { place = at; bytes = bytes.now }) self.old.inside result self.new.inside }
+        ensures memory { WritesMemory (record { place = at; bytes = bytes.now }) self.old.inside result
+            self.new.inside }
     {
         self.inside.write(at, bytes)
     }

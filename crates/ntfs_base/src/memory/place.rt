@@ -117,7 +117,8 @@ pub(crate) fn attach_in(
     name: &str,
 ) -> Result<MemFile, ShelfFault>
     ensures files { KeepsFiles name.now places.old.items places.new.items }
-    ensures planned { AttachesAsPlanned (place_of name.now places.old.items) result (place_of name.now places.new.items) }
+    ensures planned { AttachesAsPlanned (place_of name.now places.old.items) result
+        (place_of name.now places.new.items) }
     ensures placed { OnOk result (is_some (place_of name.now places.new.items) ≡ true) }
     ensures bears { IfOk result (λ file. string_bytes file.name ≡ name.now) }
     ensures bytes { IfOk result (λ file. file_of (files_of places.old.items) name.now ≡ Some file.inside.bytes.items) }
@@ -137,7 +138,8 @@ fn attach_at(
 ) -> Result<MemFile, ShelfFault>
     requires { index_of name.now places.old.items ≡ Some index }
     ensures files { KeepsFiles name.now places.old.items places.new.items }
-    ensures planned { AttachesAsPlanned (place_of name.now places.old.items) result (place_of name.now places.new.items) }
+    ensures planned { AttachesAsPlanned (place_of name.now places.old.items) result
+        (place_of name.now places.new.items) }
     ensures placed { is_some (place_of name.now places.new.items) ≡ true }
     ensures bears { IfOk result (λ file. string_bytes file.name ≡ name.now) }
     ensures bytes { IfOk result (λ file. file_of (files_of places.old.items) name.now ≡ Some file.inside.bytes.items) }
@@ -177,11 +179,13 @@ pub(crate) fn create_in(
     must_be_new: bool,
 ) -> Result<MemFile, ShelfFault>
     ensures files { CreatesFile name.now places.old.items result places.new.items }
-    ensures planned { CreatesAsPlanned (place_of name.now places.old.items) result (place_of name.now places.new.items) }
+    ensures planned { CreatesAsPlanned (place_of name.now places.old.items) result
+        (place_of name.now places.new.items) }
     ensures placed { OnOk result (is_some (place_of name.now places.new.items) ≡ true) }
     ensures file { IfOk result (IsEmptyFile name.now) }
     ensures fresh { IsTrue must_be_new → OnOk result (file_of (files_of places.old.items) name.now ≡ None) }
-    ensures present { IsErrOf result ShelfFault.Present → IsTrue must_be_new × IsSome (file_of (files_of places.old.items) name.now) }
+    ensures present { IsErrOf result ShelfFault.Present → IsTrue must_be_new
+        × IsSome (file_of (files_of places.old.items) name.now) }
 {
     let index = index_for(alloc, places, name)?;
     create_at(alloc, places, name, index, must_be_new)
@@ -196,11 +200,13 @@ fn create_at(
 ) -> Result<MemFile, ShelfFault>
     requires { index_of name.now places.old.items ≡ Some index }
     ensures files { CreatesFile name.now places.old.items result places.new.items }
-    ensures planned { CreatesAsPlanned (place_of name.now places.old.items) result (place_of name.now places.new.items) }
+    ensures planned { CreatesAsPlanned (place_of name.now places.old.items) result
+        (place_of name.now places.new.items) }
     ensures placed { is_some (place_of name.now places.new.items) ≡ true }
     ensures file { IfOk result (IsEmptyFile name.now) }
     ensures fresh { IsTrue must_be_new → OnOk result (file_of (files_of places.old.items) name.now ≡ None) }
-    ensures present { IsErrOf result ShelfFault.Present → IsTrue must_be_new × IsSome (file_of (files_of places.old.items) name.now) }
+    ensures present { IsErrOf result ShelfFault.Present → IsTrue must_be_new
+        × IsSome (file_of (files_of places.old.items) name.now) }
 {
     make(alloc, &mut places[index], must_be_new)
 }
@@ -252,7 +258,8 @@ fn fail_here(
     ensures name { place.new.name ≡ place.old.name }
     ensures content { place.new.content ≡ place.old.content }
     ensures made { place.new.calls.made ≡ place.old.calls.made }
-    ensures added { OnOk result (place.new.calls.failing.items ≡ plan_call number leaves place.old.calls.failing.items) }
+    ensures added { OnOk result (place.new.calls.failing.items
+        ≡ plan_call number leaves place.old.calls.failing.items) }
     ensures refused { OnErr result (place.new.calls.failing.items ≡ place.old.calls.failing.items) }
 {
     place.calls.fail(alloc, number, leaves)

@@ -12,8 +12,8 @@ use crate::names::remove_name;
 use crate::shelf::Shelf;
 use std::alloc::{AllocError, Global};
 
-/// A shelf in memory. It numbers the calls under each name by themselves, `attach` and `create` among them, and hands each
-/// file its name's count and list of failing calls.
+/// A shelf in memory. It numbers the calls under each name by themselves, `attach` and `create` among them, and hands
+/// each file its name's count and list of failing calls.
 #[derive(Drop)]
 pub struct MemShelf {
     pub places: Vec<Place>,
@@ -46,8 +46,8 @@ impl MemShelf {
         }
     }
 
-    /// Puts a file on the shelf, in place of one of that name, with no call under it yet and none that is to fail. Where
-    /// memory is wanting, all is as before.
+    /// Puts a file on the shelf, in place of one of that name, with no call under it yet and none that is to fail.
+    /// Where memory is wanting, all is as before.
     pub fn add(&mut self, alloc: Global, name: &str, bytes: Vec<u8>) -> Result<(), AllocError>
         ensures added { OnOk result (AddsFile name.now bytes.items self.old.places.items self.new.places.items) }
         ensures refused { OnErr result (KeepsAll self.old.places.items self.new.places.items) }
@@ -102,8 +102,7 @@ impl Shelf for MemShelf {
 
     ghost use Rattle.std.specs.Prelude.{◌≡◌, false, true, string_bytes, IsSomeAnd, IfOk, IfErr, OnOk, OnErr};
     ghost use Rattle.ntfs_base.specs.Causes.{HaveNotFallen};
-    ghost use Rattle.ntfs_base.specs.Memory.{seen_of};
-    ghost use Rattle.ntfs_base.specs.MemShelf.{seen_mem_shelf, place_of, after_attach_fault, after_create_fault, AttachesAsPlanned, CreatesAsPlanned, KeepsOthers};
+    ghost use Rattle.ntfs_base.specs.MemShelf.{seen_mem_file, seen_mem_shelf, place_of, after_attach_fault, after_create_fault, AttachesAsPlanned, CreatesAsPlanned, KeepsOthers};
     ghost use Rattle.ntfs_base.specs.Shelf.{IsHandedOut, IsCreated, AttachCause, CreateCause, after_attach, after_create, after_release, has_name, added_count};
 
     ghost seen = { λ shelf. seen_mem_shelf shelf.places.items shelf.attached.items };
@@ -112,13 +111,18 @@ impl Shelf for MemShelf {
 
     fn attach(&mut self, name: &str) -> Result<MemFile, ShelfFault>
         requires { has_name name.now (seen_mem_shelf self.old.places.items self.old.attached.items).attached ≡ false }
-        ensures file { IfOk result (λ file. IsHandedOut (seen_mem_shelf self.old.places.items self.old.attached.items) name.now (seen_of (string_bytes file.name) file.inside) file.inside.faults) }
-        ensures attached { OnOk result (seen_mem_shelf self.new.places.items self.new.attached.items ≡ after_attach name.now (seen_mem_shelf self.old.places.items self.old.attached.items)) }
-        ensures refused { OnErr result (seen_mem_shelf self.new.places.items self.new.attached.items ≡ seen_mem_shelf self.old.places.items self.old.attached.items) }
-        ensures refusal { IfErr result (λ fault. AttachCause fault (seen_mem_shelf self.old.places.items self.old.attached.items) name.now self.old.faults self.new.faults) }
+        ensures file { IfOk result (λ file. IsHandedOut (seen_mem_shelf self.old.places.items self.old.attached.items)
+            name.now (seen_mem_file file) file.inside.faults) }
+        ensures attached { OnOk result (seen_mem_shelf self.new.places.items self.new.attached.items
+            ≡ after_attach name.now (seen_mem_shelf self.old.places.items self.old.attached.items)) }
+        ensures refused { OnErr result (seen_mem_shelf self.new.places.items self.new.attached.items
+            ≡ seen_mem_shelf self.old.places.items self.old.attached.items) }
+        ensures refusal { IfErr result (λ fault. AttachCause fault
+            (seen_mem_shelf self.old.places.items self.old.attached.items) name.now self.old.faults self.new.faults) }
         ensures counts { HaveNotFallen self.old.faults self.new.faults }
         ensures faults { self.new.faults ≡ after_attach_fault result self.old.faults }
-        ensures planned { AttachesAsPlanned (place_of name.now self.old.places.items) result (place_of name.now self.new.places.items) }
+        ensures planned { AttachesAsPlanned (place_of name.now self.old.places.items) result
+            (place_of name.now self.new.places.items) }
         ensures others { KeepsOthers name.now self.old.places.items self.new.places.items }
     {
         let alloc = *self.places.allocator();
@@ -139,13 +143,19 @@ impl Shelf for MemShelf {
 
     fn create(&mut self, name: &str, must_be_new: bool) -> Result<MemFile, ShelfFault>
         requires { has_name name.now (seen_mem_shelf self.old.places.items self.old.attached.items).attached ≡ false }
-        ensures file { IfOk result (λ file. IsCreated (seen_mem_shelf self.old.places.items self.old.attached.items) name.now must_be_new (seen_of (string_bytes file.name) file.inside) file.inside.faults) }
-        ensures created { OnOk result (seen_mem_shelf self.new.places.items self.new.attached.items ≡ after_create name.now (seen_mem_shelf self.old.places.items self.old.attached.items)) }
-        ensures refused { OnErr result (seen_mem_shelf self.new.places.items self.new.attached.items ≡ seen_mem_shelf self.old.places.items self.old.attached.items) }
-        ensures refusal { IfErr result (λ fault. CreateCause fault (seen_mem_shelf self.old.places.items self.old.attached.items) name.now must_be_new self.old.faults self.new.faults) }
+        ensures file { IfOk result (λ file. IsCreated (seen_mem_shelf self.old.places.items self.old.attached.items)
+            name.now must_be_new (seen_mem_file file) file.inside.faults) }
+        ensures created { OnOk result (seen_mem_shelf self.new.places.items self.new.attached.items
+            ≡ after_create name.now (seen_mem_shelf self.old.places.items self.old.attached.items)) }
+        ensures refused { OnErr result (seen_mem_shelf self.new.places.items self.new.attached.items
+            ≡ seen_mem_shelf self.old.places.items self.old.attached.items) }
+        ensures refusal { IfErr result (λ fault. CreateCause fault
+            (seen_mem_shelf self.old.places.items self.old.attached.items) name.now must_be_new
+            self.old.faults self.new.faults) }
         ensures counts { HaveNotFallen self.old.faults self.new.faults }
         ensures faults { self.new.faults ≡ after_create_fault result self.old.faults }
-        ensures planned { CreatesAsPlanned (place_of name.now self.old.places.items) result (place_of name.now self.new.places.items) }
+        ensures planned { CreatesAsPlanned (place_of name.now self.old.places.items) result
+            (place_of name.now self.new.places.items) }
         ensures others { KeepsOthers name.now self.old.places.items self.new.places.items }
     {
         let alloc = *self.places.allocator();
@@ -165,12 +175,15 @@ impl Shelf for MemShelf {
     }
 
     fn release(&mut self, file: MemFile)
-        requires { has_name (string_bytes file.name) (seen_mem_shelf self.old.places.items self.old.attached.items).attached ≡ true }
-        ensures released { seen_mem_shelf self.new.places.items self.new.attached.items ≡ after_release (seen_of (string_bytes file.name) file.inside) (seen_mem_shelf self.old.places.items self.old.attached.items) }
+        requires { has_name (string_bytes file.name)
+            (seen_mem_shelf self.old.places.items self.old.attached.items).attached ≡ true }
+        ensures released { seen_mem_shelf self.new.places.items self.new.attached.items
+            ≡ after_release (seen_mem_file file) (seen_mem_shelf self.old.places.items self.old.attached.items) }
         ensures reads { self.new.faults.reads ≡ added_count self.old.faults.reads file.inside.faults.reads }
         ensures writes { self.new.faults.writes ≡ added_count self.old.faults.writes file.inside.faults.writes }
         ensures counts { HaveNotFallen self.old.faults self.new.faults }
-        ensures calls { IsSomeAnd (place_of (string_bytes file.name) self.new.places.items) (λ place. place.calls ≡ file.inside.calls) }
+        ensures calls { IsSomeAnd (place_of (string_bytes file.name) self.new.places.items)
+            (λ place. place.calls ≡ file.inside.calls) }
         ensures others { KeepsOthers (string_bytes file.name) self.old.places.items self.new.places.items }
     {
         let MemFile { name, inside } = file;

@@ -255,7 +255,7 @@ pub fn told(
     let mut text = String::new(alloc);
     let mut walk = match start(alloc, root, geometry) {
         Ok(walk) => walk,
-        Err(fault) => return ended(alloc, text, Err(fault), blocks.calls.made),
+        Err(fault) => return end_entry(alloc, text, Err(fault), blocks.calls.made),
     };
     'calls: for _ in 0..50 {
         let given = walk.next(blocks);
@@ -267,13 +267,13 @@ pub fn told(
             if walk.next(blocks) != given || blocks.calls.made != asked {
                 text.push_str("and another answer after ")?;
             }
-            return ended(alloc, text, given, asked);
+            return end_entry(alloc, text, given, asked);
         }
     }
     Ok(text)
 }
 
-fn ended(
+fn end_entry(
     alloc: Global,
     mut text: String,
     given: Result<Option<Entry>, IndexFault>,

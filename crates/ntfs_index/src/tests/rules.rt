@@ -28,7 +28,18 @@ fn check(
     patches: &[Patch],
     want: &str,
 ) -> Result<(), Fail> {
-    let (root, mut blocks) = tree(alloc, &rows(), patches)?;
+    check_rows(rt, alloc, name, &rows(), patches, want)
+}
+
+fn check_rows(
+    rt: &impl Abort,
+    alloc: Global,
+    name: &str,
+    rows: &[Row],
+    patches: &[Patch],
+    want: &str,
+) -> Result<(), Fail> {
+    let (root, mut blocks) = tree(alloc, rows, patches)?;
     let got = told(alloc, &root, &geometry(1024, 1024), &mut blocks)?;
     assert_eq!(rt; got.as_str(), want, "{name}");
     Ok(())
@@ -136,6 +147,54 @@ fn the_first_of_two_rules_is_named(rt: HostRuntime) -> Result<(), Fail> {
         ),
     ] {
         check(&rt, rt.alloc(), name, &[one, two], want)?;
+    }
+    Ok(())
+}
+
+/// A root with the entries 3 at 0x20 and 5 at 0x80, both above block 0, and the end at 0xE0.
+#[test]
+fn a_block_is_met_again_and_a_rule_is_broken(rt: HostRuntime) -> Result<(), Fail> {
+    let rows = [
+        above(ROOT, 3, 0),
+        above(ROOT, 5, 0),
+        end(ROOT),
+        own(0, 2),
+        end(0),
+    ];
+    for (name, patches, want) in [
+        ("6 alone", &[][..], "2.1 3.1 rule 6 at 0.1"),
+        (
+            "4, then 6",
+            &[(ROOT, 0x88, 8)][..],
+            "2.1 3.1 rule 4 at root.1",
+        ),
+        (
+            "5, then 6",
+            &[(ROOT, 0x8A, 0x49)][..],
+            "2.1 3.1 rule 5 at root.1",
+        ),
+        ("6, then 4", &[(ROOT, 0xE8, 8)][..], "2.1 3.1 rule 6 at 0.1"),
+        ("7, then 6", &[(ROOT, 0x78, 9)][..], "rule 7 at 9.1"),
+        ("2, then 6", &[(0, 0x10, 9)][..], "rule 2 at 0.1"),
+    ] {
+        check_rows(&rt, rt.alloc(), name, &rows, patches, want)?;
+    }
+    Ok(())
+}
+
+#[test]
+fn a_root_has_at_least_32_bytes(rt: HostRuntime) -> Result<(), Fail> {
+    for (length, want) in [
+        (0, "rule 1 at root.0"),
+        (31, "rule 1 at root.0"),
+        (32, "rule 3 at root.0"),
+        (239, "rule 3 at root.0"),
+        (240, "1.0 2.1 3.1 4.2 whole.2"),
+    ] {
+        let (root, mut blocks) = tree(rt.alloc(), &rows(), &[])?;
+        let cut = root.get(..length).ok_or("no root")?;
+        let got = told(rt.alloc(), cut, &geometry(1024, 1024), &mut blocks)?;
+        assert_eq!(rt; got.as_str(), want, "{length}");
     }
     Ok(())
 }

@@ -6,4 +6,6 @@ use Rattle.ntfs_base.proofs.BytesLemmas.{little_number-drop}
 use Rattle.ntfs_fixup.proofs.header.word_at.Goals as goal
 
 pub returns : goal.returns
-returns c = c.read_u16.ensures ∙ ap (little_number 2) (take_rest c.args.block.now c.args.place) ∙ little_number-drop 2 c.args.place c.args.block.now
+returns c =
+    c.read_u16.ensures ∙ ap (little_number 2) (take_rest c.args.block.now c.args.place)
+    ∙ little_number-drop 2 c.args.place c.args.block.now

@@ -2,13 +2,13 @@ use Rattle.std.proofs.Common.{◌≤◌, ◌+◌, ◌*◌, ◌-◌, ◌⊎◌, i
 use Rattle.std.proofs.lemmas.Bool.{cases_lt}
 use Rattle.ntfs_make.specs.Rows.{rows}
 use Rattle.ntfs_make.specs.Records.{records_bytes}
-use Rattle.ntfs_make.specs.Streams.{HasBetween, stream_bytes}
+use Rattle.ntfs_make.specs.Streams.{HasBetween, content_bytes}
 use Rattle.ntfs_make.proofs.RowLemmas.{length-rows}
 use Rattle.ntfs_make.proofs.PartLemmas.{records-part}
 use Rattle.ntfs_make.proofs.stream.mft_part.Goals as goal
 
 pub returns : goal.returns
-unfolding stream_bytes
+unfolding content_bytes
 returns c =
     let shape = c.args.layout.now in
     let first = c.min-first.result in

@@ -1,5 +1,5 @@
 use Rattle.std.proofs.Common.{◌≡◌, ◌≤◌, ◌-◌}
-use Rattle.ntfs_record.specs.Parsed as spec
+use Rattle.ntfs_record.specs.Parsing as spec
 use Rattle.ntfs_record.proofs.soundness.first_unsound.Given as goal
 
 abbrev pub invariant-attributes : goal.invariant-attributes

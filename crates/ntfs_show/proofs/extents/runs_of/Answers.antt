@@ -10,7 +10,7 @@ returns-in_err-extents-clause-gives c =
 
 pub returns-then-not-fit-clause-gives : goal.returns-then-not-fit-clause-gives
 returns-then-not-fit-clause-gives c settled =
-    runs-gathered c.args.geometry.now.cluster c.args.geometry.now.clusters c.args.number c.args.flags c.args.size c.args.valid _ c.in_ok-extents.extents _ c.in_ok-extents.ensures.joins (sym c.fit.ensures ∙ c.if-not-fit.true) ∙ ap Err (sym c.damaged.ensures)
+    runs-gathered c.args.geometry.now.cluster c.args.geometry.now.clusters c.args.number c.args.flags c.args.size c.args.valid _ c.in_ok-extents.extents _ c.in_ok-extents.ensures.joins (sym c.fit.ensures ∙ c.if-not-fit.true) ∙ ap Err (sym c.damage_of.ensures)
 
 pub returns-clause-gives : goal.returns-clause-gives
 returns-clause-gives c =

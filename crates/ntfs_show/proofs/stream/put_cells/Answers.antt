@@ -1,4 +1,4 @@
-use Rattle.std.proofs.Common.{◌+◌, sym, ◌∙◌, refl, arith, ℕ, List, Ok, Err, true, drop, get_or}
+use Rattle.std.proofs.Common.{◌+◌, sym, ◌∙◌, refl, arith, Ok, Err, true, drop, get_or}
 use Rattle.std.proofs.lemmas.Result.{err_from_is_err_and}
 use Rattle.ntfs_base.specs.Bytes.{cluster_at}
 use Rattle.ntfs_base.specs.Frames.{Puts}
@@ -6,12 +6,12 @@ use Rattle.ntfs_base.proofs.FramesLemmas.{told_still}
 use Rattle.ntfs_runs.specs.Clusters.{row, vcns}
 use Rattle.ntfs_runs.proofs.CellsLemmas.{no_run}
 use Rattle.ntfs_show.specs.Cat.{cat_origin}
-use Rattle.ntfs_show.specs.Cells.{are_cells, map_cells}
+use Rattle.ntfs_runs.specs.Cells.{are_cells, map_cells}
 use Rattle.ntfs_show.specs.StreamBytes.{pieces}
 use Rattle.ntfs_show.proofs.AnswerLemmas.{never-puts}
-use Rattle.ntfs_show.proofs.CellsLemmas.{are_cells-next}
+use Rattle.ntfs_runs.proofs.CellsLemmas.{are_cells-next}
 use Rattle.ntfs_show.proofs.PutLemmas.{left-start, puts-end, runs-cut, runs-end, runs-step}
-use Rattle.ntfs_show.proofs.TableLemmas.{and-left, and-right}
+use Rattle.ntfs_show.proofs.BoolLemmas.{and-left, and-right}
 use Rattle.ntfs_show.proofs.stream.put_cells.Goals as goal
 
 pub runs-init : goal.runs-init

@@ -3,7 +3,7 @@ use Rattle.ntfs_base.specs.Bytes.{cluster_at}
 use Rattle.ntfs_base.specs.Causes.{HaveNotFallen}
 use Rattle.ntfs_base.specs.Frames.{IfTold, SinkHasNotFallen}
 use Rattle.ntfs_runs.specs.Clusters.{vcns}
-use Rattle.ntfs_show.specs.Cells.{are_cells, map_cells}
+use Rattle.ntfs_runs.specs.Cells.{are_cells, map_cells}
 use Rattle.ntfs_show.specs.Putting.{IsLeft}
 use Rattle.ntfs_show.specs.StreamBytes.{pieces}
 use Rattle.ntfs_show.proofs.stream.put_cells.Given as goal

@@ -6,8 +6,7 @@ use Rattle.ntfs_base.specs.Frames.{IsSettled}
 use Rattle.ntfs_base.proofs.FramesLemmas.{told_still}
 use Rattle.ntfs_runs.specs.Clusters.{row}
 use Rattle.ntfs_show.specs.Cat.{cat_origin}
-use Rattle.ntfs_show.specs.Cells.{are_cells, map_cells}
-use Rattle.ntfs_show.specs.Putting.{IsLeft}
+use Rattle.ntfs_runs.specs.Cells.{are_cells, map_cells}
 use Rattle.ntfs_show.specs.StreamBytes.{pieces, shown_cell}
 use Rattle.ntfs_show.specs.declared.cat_fault.CatFault.{CatFault}
 use Rattle.ntfs_show.proofs.AnswerLemmas.{given, never}

@@ -5,7 +5,7 @@ use Rattle.ntfs_boot.specs.Geometry.{bytes_of_clusters}
 use Rattle.ntfs_runs.specs.Clusters.{vcns}
 use Rattle.ntfs_runs.specs.declared.run.Run.{Run}
 use Rattle.ntfs_show.specs.Cat.{cat_origin}
-use Rattle.ntfs_show.specs.Cells.{map_cells}
+use Rattle.ntfs_runs.specs.Cells.{map_cells}
 use Rattle.ntfs_show.specs.StreamBytes.{pieces}
 use Rattle.ntfs_show.proofs.AnswerLemmas.{puts_by}
 use Rattle.ntfs_show.proofs.PutLemmas.{left-start, puts-failed, puts-stop, puts-whole, sink-cuts}

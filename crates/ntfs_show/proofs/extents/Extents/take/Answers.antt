@@ -3,7 +3,7 @@ use Rattle.ntfs_record.specs.Views.{shown_body}
 use Rattle.ntfs_record.specs.declared.attribute.Body.{Body}
 use Rattle.ntfs_runs.specs.Clusters.{vcns}
 use Rattle.ntfs_runs.specs.declared.run.Run.{Run}
-use Rattle.ntfs_show.specs.Cells.{cells_below}
+use Rattle.ntfs_runs.specs.Cells.{cells_below}
 use Rattle.ntfs_show.specs.Gather.{AreRuns}
 use Rattle.ntfs_show.proofs.ExtentsLemmas.{takes-runs}
 use Rattle.ntfs_show.proofs.extents.Extents.take.Goals as goal

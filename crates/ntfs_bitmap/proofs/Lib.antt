@@ -1,0 +1,9 @@
+pub mod KeyLemmas
+pub mod SetLemmas
+pub mod RunsLemmas
+pub mod JoinLemmas
+pub mod StretchLemmas
+pub mod ClaimLemmas
+pub mod CountLemmas
+pub mod BitLemmas
+pub mod LawLemmas

@@ -1,0 +1,6 @@
+use Rattle.std.proofs.Common.{◌≡◌}
+use Rattle.ntfs_bitmap.specs.ClusterSet.{bound_of}
+use Rattle.ntfs_bitmap.proofs.tests.claims_are_whole.Given as goal
+
+abbrev pub invariant-claims : goal.invariant-claims
+invariant-claims g l = bound_of l.set ≡ 100

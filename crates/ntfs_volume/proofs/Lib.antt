@@ -1,0 +1,17 @@
+mod AnswerLemmas
+mod PieceLemmas
+mod ReadLemmas
+mod TableLemmas
+mod FoundLemmas
+mod MapLemmas
+mod EntriesLemmas
+mod TableListLemmas
+mod TableMapLemmas
+mod ListLemmas
+mod LawLemmas
+mod GatherCells
+mod PartsLemmas
+mod GatherSteps
+mod GatherLemmas
+mod GatherItems
+mod FileLemmas

@@ -1,0 +1,125 @@
+//! Records of a small volume: 64 clusters of 512 bytes, $MFT in two runs, the second record over both.
+ghost use Rattle.std.specs.Prelude.{◌≡◌};
+ghost use Rattle.ntfs_boot.specs.Geometry.{IsOpened};
+ghost use Rattle.ntfs_runs.specs.Clusters.{AreSpellable, AreWithin};
+
+use crate::{Table, Volume, VolumeFault};
+use ntfs_base::{Image, Leaves, MemImage, Rule};
+use ntfs_boot::{Geometry, read_volume_geometry};
+use ntfs_runs::{RunList, decode};
+use std::alloc::{AllocError, Global};
+use std::process::Abort;
+use std::test::Fail;
+
+/// Writes a text over the bytes, where it lies in them.
+fn patch(bytes: &mut [u8], at: usize, text: &[u8]) {
+    if at <= bytes.len() && text.len() <= bytes.len() - at {
+        bytes[at..at + text.len()].copy_from_slice(text);
+    }
+}
+
+/// The first half of a record of this number, whose second half may lie elsewhere.
+fn record(bytes: &mut [u8], first: usize, second: usize, number: u8) {
+    patch(bytes, first, b"FILE\x30\0\x03\0");
+    if first > 1 << 20 || second > 1 << 20 {
+        return;
+    }
+    patch(bytes, first + 0x14, &[56, 0, 1, 0, 64, 0, 0, 0, 0, 4]);
+    patch(bytes, first + 0x2C, &[number, 0, 0, 0, 5, 0, 1, 0, 2, 0]);
+    patch(bytes, first + 56, &[0xFF; 4]);
+    patch(bytes, first + 510, &[5, 0]);
+    patch(bytes, second + 510, &[5, 0]);
+}
+
+/// Clusters 4 to 6 and 12 to 34 are $MFT's: record 1 lies in clusters 6 and 12, record 2 in 13 and 14 with the number
+/// 1.
+fn volume(alloc: Global) -> Result<Vec<u8>, AllocError> {
+    let mut bytes = vec![in alloc; 0; 33_280]?;
+    patch(&mut bytes, 3, b"NTFS    \0\x02\x01");
+    patch(&mut bytes, 0x28, &[64]);
+    patch(&mut bytes, 0x30, &[4]);
+    patch(&mut bytes, 0x38, &[40]);
+    patch(&mut bytes, 0x40, &[0xF6]);
+    patch(&mut bytes, 0x44, &[0xF4]);
+    record(&mut bytes, 6 * 512, 12 * 512, 1);
+    record(&mut bytes, 13 * 512, 14 * 512, 1);
+    record(&mut bytes, 31 * 512, 32 * 512, 11);
+    Ok(bytes)
+}
+
+/// Reads a record at a type that is known by its bound alone; $MFT has 12 records, 11 of them initialised.
+fn read<G: Image>(
+    image: &mut G,
+    geometry: Geometry,
+    runs: RunList,
+    number: u64,
+    into: &mut [u8],
+) -> Option<Result<(), VolumeFault>>
+    requires opened { IsOpened (G.seen image.old).size geometry }
+    requires spellable { AreSpellable runs }
+    requires within { AreWithin runs }
+{
+    let table = Table::fitting(geometry, runs, 12_288, 11_264)?;
+    if into.len() != geometry.record_size as usize {
+        return None;
+    }
+    let mut volume = Volume::new(image, table);
+    Some(volume.read_record(number, into))
+}
+
+/// The answer for a record, with a read that fails.
+fn answer(
+    alloc: Global,
+    number: u64,
+    failing: u64,
+    into: &mut [u8],
+) -> Result<Result<(), VolumeFault>, Fail> {
+    let mut image = MemImage::new(alloc, volume(alloc)?);
+    image.inside.calls.fail(alloc, failing, Leaves::Before)?;
+    match read_volume_geometry(&mut image) {
+        Err(_) => Err("a geometry")?,
+        Ok(geometry) => match decode(alloc, &[0x11, 3, 4, 0x11, 23, 8, 0]) {
+            Err(_) => Err("runs")?,
+            Ok(runs) => Ok(read(&mut image, geometry, runs, number, into).ok_or("a table")?),
+        },
+    }
+}
+
+#[test]
+fn records_are_read_or_refused(rt: HostRuntime) -> Result<(), Fail> {
+    let alloc = rt.alloc();
+    let unsound = VolumeFault::Damaged {
+        rule: Rule::C4,
+        number: 2,
+    };
+    let cases = [
+        (0, 9, Err(VolumeFault::Absent)),
+        (1, 9, Ok(())),
+        (1, 2, Err(VolumeFault::ReadFault)),
+        (1, 3, Err(VolumeFault::ReadFault)),
+        (2, 9, Err(unsound)),
+        (11, 9, Err(VolumeFault::Absent)),
+        (12, 9, Err(VolumeFault::Absent)),
+    ];
+    for (number, failing, want) in cases {
+        let mut block = [0; 1024];
+        assert_eq!(rt;
+            answer(alloc, number, failing, &mut block)?,
+            want,
+            "{number} {failing}"
+        );
+    }
+    Ok(())
+}
+
+#[test]
+fn a_record_in_two_runs_is_unfixed(rt: HostRuntime) -> Result<(), Fail> {
+    let mut block = [0; 1024];
+    assert_eq!(rt; answer(rt.alloc(), 1, 9, &mut block)?, Ok(()));
+    assert_eq!(rt; block.starts_with(b"FILE"), true);
+    assert_eq!(rt;
+        (block[510], block[511], block[1022], block[1023]),
+        (1, 0, 2, 0)
+    );
+    Ok(())
+}
