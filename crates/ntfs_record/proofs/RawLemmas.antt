@@ -257,7 +257,6 @@ all_placed P used bytes place (raw ∷ raws) last within each follow =
     (first, rw len rest)
 
 pub record-kept : (bytes : List ℕ) (r : FileRecord) → AreBytes bytes → IsRecord bytes r → IsKept bytes r
-unfolding layout_of
 record-kept bytes r are is =
     let allocated : allocated_of bytes < 2 ^ 32 = number_at-lt 4 0x1C bytes are in
     let small : in_use_of bytes < 2 ^ 32 = number_at-lt 4 0x18 bytes are in

@@ -145,7 +145,6 @@ runs-stand place raw bytes at is runs =
 pub by_kind : (P : Attribute (Laid (List ℕ)) → Type 0) (used place : ℕ) (bytes : List ℕ) → IsSoundAt used place bytes
     → (non_resident_at place bytes ≡ 0 → P (resident_at place bytes))
     → (non_resident_at place bytes ≡ 1 → P (runs_at place bytes)) → P (attribute_at place bytes)
-unfolding attribute_at
 by_kind P used place bytes s resident runs =
     elim (whether (eqb (non_resident_at place bytes) 0)) [
       | inl is ↦ rw is (resident (eqb-true _ _ is))
@@ -156,12 +155,10 @@ by_kind P used place bytes s resident runs =
 
 resident-is : (place : ℕ) (bytes : List ℕ) → non_resident_at place bytes ≡ 0
     → attribute_at place bytes ≡ resident_at place bytes
-unfolding attribute_at
 resident-is place bytes is = rw is refl
 
 runs-are : (place : ℕ) (bytes : List ℕ) → non_resident_at place bytes ≡ 1
     → attribute_at place bytes ≡ runs_at place bytes
-unfolding attribute_at
 runs-are place bytes is = rw is refl
 
 -- an attribute's own bytes that stand at a place say there what they say alone

@@ -128,7 +128,7 @@ runs_at place bytes = record {
 }
 
 -- what the attribute at a place says
-unfoldable pub attribute_at : ℕ → List ℕ → Attribute (Laid (List ℕ))
+abbrev pub attribute_at : ℕ → List ℕ → Attribute (Laid (List ℕ))
 attribute_at place bytes = if is_resident_at place bytes then resident_at place bytes else runs_at place bytes
 
 -- ---- an attribute by its own bytes

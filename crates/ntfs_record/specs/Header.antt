@@ -36,7 +36,7 @@ unfoldable pub header_fault_of : List ℕ → Option ℕ
 header_fault_of bytes = first_wrong (header_checks bytes)
 
 -- the plain values of the header
-unfoldable pub head_of : List ℕ → Head
+abbrev pub head_of : List ℕ → Head
 head_of bytes = record {
   log_number = log_number_of bytes;
   sequence = sequence_of bytes;
@@ -48,7 +48,7 @@ head_of bytes = record {
 
 -- where the parts of the record stand; a record tells its number where its update sequence array begins at 0x30 or
 -- later
-unfoldable pub layout_of : List ℕ → HeadLayout
+abbrev pub layout_of : List ℕ → HeadLayout
 layout_of bytes = record {
   array_offset = array_offset bytes;
   array_count = array_count bytes;

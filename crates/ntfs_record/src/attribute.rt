@@ -82,7 +82,7 @@ fn pairs_at<'a>(bytes: &'a [u8], place: usize) -> &'a [u8]
     )
 }
 
-#[tactic(auto, unfolding(crate::specs::Attribute::attribute_at, crate::specs::Attribute::resident_at, crate::specs::Attribute::runs_at))]
+#[tactic(auto, unfolding(crate::specs::Attribute::resident_at, crate::specs::Attribute::runs_at))]
 fn body_at<'a>(bytes: &'a [u8], place: usize) -> Body<'a>
     requires within { layout.in_use_of bytes.now ≤ length bytes.now }
     requires sound { spec.IsSoundAt (layout.in_use_of bytes.now) place bytes.now }
@@ -103,7 +103,7 @@ fn body_at<'a>(bytes: &'a [u8], place: usize) -> Body<'a>
     }
 }
 
-#[tactic(auto, unfolding(crate::specs::Attribute::attribute_at, crate::specs::Attribute::resident_at, crate::specs::Attribute::runs_at))]
+#[tactic(auto, unfolding(crate::specs::Attribute::resident_at, crate::specs::Attribute::runs_at))]
 fn view_at<'a>(bytes: &'a [u8], place: usize) -> AttributeView<'a>
     requires within { layout.in_use_of bytes.now ≤ length bytes.now }
     requires sound { spec.IsSoundAt (layout.in_use_of bytes.now) place bytes.now }

@@ -34,7 +34,7 @@ impl<'a> Model for RecordView<'a> {
     ghost invariant = { λ r. IsAccepted r.bytes.now };
 }
 
-#[tactic(auto, using(crate::proofs::Sound::sound_header), unfolding(crate::specs::Parsing::record_of, crate::specs::Header::head_of, crate::specs::Header::layout_of))]
+#[tactic(auto, using(crate::proofs::Sound::sound_header), unfolding(crate::specs::Parsing::record_of))]
 impl<'a> RecordView<'a> {
     /// The sequence number, which tells how often the record was used for another file.
     pub fn sequence(&self) -> u16

@@ -10,7 +10,7 @@ use Rattle.ntfs_base.specs.Causes.{Rose, last_count}
 use Rattle.ntfs_base.specs.Frames.{Because, Origin, content, reading, writing, memory}
 use Rattle.ntfs_boot.specs.declared.geometry.Geometry.{Geometry}
 use Rattle.ntfs_record.specs.FileRecord.{FileRecord}
-use Rattle.ntfs_volume.specs.Known.{behind, listed_clusters}
+use Rattle.ntfs_volume.specs.Known.{behind_known, listed_clusters}
 use Rattle.ntfs_volume.specs.Listing.{listing_of_entries}
 use Rattle.ntfs_volume.specs.MftMap.{clusters_by, extent_of_entry, further, is_further, no_map}
 use Rattle.ntfs_volume.specs.declared.fault.VolumeFault.{VolumeFault}
@@ -74,7 +74,7 @@ entry-wrong items rest fault is = ap (λ xs. filter is_further (right_entries xs
 
 -- an extent more
 further_by : (g : Geometry) (f : ℕ → List ℕ) (valid : ℕ) (first : FileRecord) (known new : List ℕ) (entry : Listed) (entries : List Listed) (extent : Result (List ℕ) VolumeFault)
-    → extent_of_entry g f valid first known entry ≡ extent → behind known extent ≡ Ok new
+    → extent_of_entry g f valid first known entry ≡ extent → behind_known known extent ≡ Ok new
     → further g f valid first known (entry ∷ entries) ≡ further g f valid first new entries
 unfolding further
 further_by g f valid first known new entry entries (Ok more) is whole =
@@ -84,19 +84,19 @@ further_by g f valid first known new entry entries (Ok more) is whole =
 further_by g f valid first known new entry entries (Err fault) is whole = let same : ◌≡◌ {A = Result (List ℕ) VolumeFault} (Err fault) (Ok new) = whole in absurd cc
 
 pub further-more : (g : Geometry) (f : ℕ → List ℕ) (valid : ℕ) (first : FileRecord) (known new : List ℕ) (entry : Listed) (entries : List Listed)
-    → behind known (extent_of_entry g f valid first known entry) ≡ Ok new
+    → behind_known known (extent_of_entry g f valid first known entry) ≡ Ok new
     → further g f valid first known (entry ∷ entries) ≡ further g f valid first new entries
 further-more g f valid first known new entry entries whole = further_by g f valid first known new entry entries (extent_of_entry g f valid first known entry) refl whole
 
 further_fault : (g : Geometry) (f : ℕ → List ℕ) (valid : ℕ) (first : FileRecord) (known : List ℕ) (entry : Listed) (entries : List Listed) (fault : VolumeFault) (extent : Result (List ℕ) VolumeFault)
-    → extent_of_entry g f valid first known entry ≡ extent → behind known extent ≡ Err fault
+    → extent_of_entry g f valid first known entry ≡ extent → behind_known known extent ≡ Err fault
     → further g f valid first known (entry ∷ entries) ≡ Err fault
 unfolding further
 further_fault g f valid first known entry entries fault (Ok more) is whole = let same : ◌≡◌ {A = Result (List ℕ) VolumeFault} (Ok (known ++ more)) (Err fault) = whole in absurd cc
 further_fault g f valid first known entry entries fault (Err found) is whole = rw is whole
 
 pub further-stops : (g : Geometry) (f : ℕ → List ℕ) (valid : ℕ) (first : FileRecord) (known : List ℕ) (entry : Listed) (entries : List Listed) (fault : VolumeFault)
-    → behind known (extent_of_entry g f valid first known entry) ≡ Err fault
+    → behind_known known (extent_of_entry g f valid first known entry) ≡ Err fault
     → further g f valid first known (entry ∷ entries) ≡ Err fault
 further-stops g f valid first known entry entries fault whole = further_fault g f valid first known entry entries fault (extent_of_entry g f valid first known entry) refl whole
 

@@ -12,7 +12,7 @@ use Rattle.ntfs_record.specs.Views.{placed_from}
 use Rattle.ntfs_runs.specs.Cells.{Cells}
 use Rattle.ntfs_volume.specs.Gather.{Extent, bad_record, extents, extents_in}
 use Rattle.ntfs_volume.specs.Gathering.{cell_slot, file_lists, stream_in_file}
-use Rattle.ntfs_volume.specs.Listing.{Listing, filled_attributes, listing_in}
+use Rattle.ntfs_volume.specs.Listing.{RecordListing, filled_attributes, listing_in}
 use Rattle.ntfs_volume.specs.Located.{Located, located_of, slot_at, slots_of, sound_located, unlocated, with_cells}
 use Rattle.ntfs_volume.specs.MftMap.{Map}
 use Rattle.ntfs_volume.specs.Records.{read_of}
@@ -36,7 +36,7 @@ lists-file g f slots r file is =
 abbrev bad : ℕ → VolumeFault
 bad r = bad_record r
 
-abbrev base_stream : ℕ → ℕ → ℕ → List ℕ → Listing → List (Slot (Located (Laid (Cells ℕ)))) → Slot (Located (Laid (Cells ℕ))) → Result (Gathered ℕ) VolumeFault
+abbrev base_stream : ℕ → ℕ → ℕ → List ℕ → RecordListing → List (Slot (Located (Laid (Cells ℕ)))) → Slot (Located (Laid (Cells ℕ))) → Result (Gathered ℕ) VolumeFault
 base_stream c r kind name listing slots slot =
     (must slot.is_live volume.Absent >>= (λ _. must slot.is_sound (bad r) >>= (λ _. must (slot.head.base == 0) volume.Absent >>= (λ _. extents_in r kind name listing slot slots)))) >>= (λ found. stream_of c r (map part_of found))
 
@@ -73,7 +73,7 @@ gather-extension g m f r kind name b file some read is base =
     by-slot g m f r kind name (cell_slot g.clusters file) (slot-read g m f r b file some read is)
     ∙ other-step (file.head.base == 0) (extents_in r kind name (lists_of g f (slots_of g m f) r) (cell_slot g.clusters file) (with_cells g.clusters (slots_of g m f))) g.cluster r base
 
-faulty-stream : (c r kind : ℕ) (name : List ℕ) (listing : Listing) (slots : List (Slot (Located (Laid (Cells ℕ))))) (slot : Slot (Located (Laid (Cells ℕ)))) (fault : VolumeFault) → IsFaulty r slot fault
+faulty-stream : (c r kind : ℕ) (name : List ℕ) (listing : RecordListing) (slots : List (Slot (Located (Laid (Cells ℕ))))) (slot : Slot (Located (Laid (Cells ℕ)))) (fault : VolumeFault) → IsFaulty r slot fault
     → base_stream c r kind name listing slots slot ≡ Err fault
 faulty-stream c r kind name listing slots slot fault (inl absent) = rw absent.1 (ap Err (sym absent.0))
 faulty-stream c r kind name listing slots slot fault (inr wrong) = rw (wrong.1.0, wrong.1.1) (ap Err (sym wrong.0))

@@ -21,13 +21,13 @@ use Rattle.ntfs_record.specs.Views.{Placed, Shown, placed_of, shown_placed}
 use Rattle.ntfs_record.specs.declared.fault.RecordFault.{RecordFault}
 use Rattle.ntfs_runs.specs.Cells.{Cells, cells_below}
 use Rattle.ntfs_volume.specs.Gather.{Extent, all_found, bad_list, bad_record, extent_at, extents_in, found_in, id_of, is_member, is_of, listed_extents, lists, means, own_extents}
-use Rattle.ntfs_volume.specs.Gathering.{Progress, added, all_taken, apart, cell_slot, entry_fault, entry_parts, file_lists, finished, found_part, is_meant, is_settled, joined, list_fault, listed_parts, met, nothing, shown_id, shown_part, shown_parts_of, stream_in_file, taken, wrong_in}
-use Rattle.ntfs_volume.specs.Listing.{Listing, filled_attribute, filled_attributes, is_list, list_bytes, listing_in, listing_of, listing_of_bytes, listing_of_entries, no_listing}
+use Rattle.ntfs_volume.specs.Gathering.{Progress, added, all_taken, apart, cell_slot, entry_fault, entry_parts, file_lists, finished, found_part, is_meant, is_settled, joined, list_fault, listed_parts, met, no_parts, shown_id, shown_part, shown_parts_of, stream_in_file, taken, wrong_in}
+use Rattle.ntfs_volume.specs.Listing.{RecordListing, filled_attribute, filled_attributes, is_list, bytes_of_list, listing_in, listing_of, listing_of_bytes, listing_of_entries, no_listing}
 use Rattle.ntfs_volume.specs.Fault.{volume_origin}
 use Rattle.ntfs_volume.specs.ListViews.{list_bytes_of}
 use Rattle.ntfs_volume.specs.Views.{is_wanted, told}
 use Rattle.ntfs_volume.specs.declared.wanted.Wanted.TheVariants as wanted
-use Rattle.ntfs_volume.specs.Located.{Located, idle, live_located, located_of, located_slot, map_located, slot_at, slots_from, slots_of, sound_located, unsound, with_cells}
+use Rattle.ntfs_volume.specs.Located.{Located, idle, live_located, located_of, located_slot, map_located, slot_at, slots_from, slots_of, sound_located, unsound_located, with_cells}
 use Rattle.ntfs_volume.specs.MftMap.{Map, no_map}
 use Rattle.ntfs_volume.specs.Records.{raw_record, read_of, unfixed_record}
 use Rattle.ntfs_volume.specs.References.{target}
@@ -95,7 +95,7 @@ abbrev ok_bytes : List ℕ → Result (List ℕ) VolumeFault
 ok_bytes block = Ok block
 
 told-step : (n : ℕ) (block b : List ℕ) (said file : FileRecord) (own : Bool) → parse_of block ≡ Ok said → parse_of b ≡ Ok file
-    → (must own (bad_record n) >>= (λ _. ok_bytes block)) ≡ Ok b → (if own then sound_located said else unsound) ≡ sound_located file
+    → (must own (bad_record n) >>= (λ _. ok_bytes block)) ≡ Ok b → (if own then sound_located said else unsound_located) ≡ sound_located file
 told-step n block b said file true parsed is read =
     let same : block ≡ b = cc in
     let one : ◌≡◌ {A = Result FileRecord RecordFault} (Ok said) (Ok file) = sym parsed ∙ ap parse_of same ∙ is in
@@ -177,7 +177,7 @@ same-fault : (a b : VolumeFault) → ◌≡◌ {A = Result (List ℕ) VolumeFaul
 same-fault a b is = cc
 
 fault-own : (n : ℕ) (block : List ℕ) (said : FileRecord) (own : Bool) (fault : VolumeFault)
-    → (must own (bad_record n) >>= (λ _. ok_bytes block)) ≡ Err fault → IsFaulty n (if own then sound_located said else unsound) fault
+    → (must own (bad_record n) >>= (λ _. ok_bytes block)) ≡ Err fault → IsFaulty n (if own then sound_located said else unsound_located) fault
 fault-own n block said true fault read = absurd cc
 fault-own n block said false fault read = inr (same-fault (bad_record n) fault read, (refl, refl))
 
@@ -301,31 +301,31 @@ own-shown n r h kind name (q ∷ ps) p =
 
 -- ---- the stream of a base record
 
-pub stream-own : (c n r kind : ℕ) (name : List ℕ) (listing : Listing) (file : FileRecord) (slots : List (Slot (Located (Laid (Cells ℕ))))) → listing.is_there ≡ false
-    → stream_in_file c r kind name listing (cell_slot n file) slots ≡ finished c r (shown_parts_of n r kind name (map shown_placed (placed_of file)) nothing)
+pub stream-own : (c n r kind : ℕ) (name : List ℕ) (listing : RecordListing) (file : FileRecord) (slots : List (Slot (Located (Laid (Cells ℕ))))) → listing.is_there ≡ false
+    → stream_in_file c r kind name listing (cell_slot n file) slots ≡ finished c r (shown_parts_of n r kind name (map shown_placed (placed_of file)) no_parts)
 unfolding stream_in_file extents_in own_extents
 stream-own c n r kind name listing file slots none =
     rw none refl
-    ∙ sym (ap (finished c r) (own-shown n r file.head kind name (placed_of file) nothing) ∙ finish-all c r (map part_of (map (extent_at r file.head) (own_of kind name n (placed_of file)))))
+    ∙ sym (ap (finished c r) (own-shown n r file.head kind name (placed_of file) no_parts) ∙ finish-all c r (map part_of (map (extent_at r file.head) (own_of kind name n (placed_of file)))))
 
 all-step : (c r : ℕ) (found : Result (List (Extent (Located (Laid (Cells ℕ))))) VolumeFault)
-    → (found >>= (λ found. stream_of c r (map part_of found))) ≡ ((found >>= (λ found. ok_progress (all_taken nothing (map part_of found)))) >>= (λ p. finished c r p))
+    → (found >>= (λ found. stream_of c r (map part_of found))) ≡ ((found >>= (λ found. ok_progress (all_taken no_parts (map part_of found)))) >>= (λ p. finished c r p))
 all-step c r (Err fault) = refl
 all-step c r (Ok found) = sym (finish-all c r (map part_of found))
 
 good-step : (c r : ℕ) (good : Bool) (found : Result (List (Extent (Located (Laid (Cells ℕ))))) VolumeFault) (parts : Result Progress VolumeFault)
-    → parts ≡ (found >>= (λ found. ok_progress (all_taken nothing (map part_of found))))
+    → parts ≡ (found >>= (λ found. ok_progress (all_taken no_parts (map part_of found))))
     → ((must good (bad_list r) >>= (λ _. found)) >>= (λ found. stream_of c r (map part_of found))) ≡ ((must good (bad_list r) >>= (λ _. parts)) >>= (λ p. finished c r p))
 good-step c r true found parts is = all-step c r found ∙ ap (λ parts. parts >>= (λ p. finished c r p)) (sym is)
 good-step c r false found parts is = refl
 
-pub stream-listed : (c n r kind : ℕ) (name : List ℕ) (listing : Listing) (file : FileRecord) (slots : List (Slot (Located (Laid (Cells ℕ))))) → listing.is_there ≡ true
-    → stream_in_file c r kind name listing (cell_slot n file) slots ≡ (listed_parts r file.head.sequence kind name slots listing nothing >>= (λ p. finished c r p))
+pub stream-listed : (c n r kind : ℕ) (name : List ℕ) (listing : RecordListing) (file : FileRecord) (slots : List (Slot (Located (Laid (Cells ℕ))))) → listing.is_there ≡ true
+    → stream_in_file c r kind name listing (cell_slot n file) slots ≡ (listed_parts r file.head.sequence kind name slots listing no_parts >>= (λ p. finished c r p))
 unfolding stream_in_file extents_in listed_extents listed_parts
 stream-listed c n r kind name listing file slots there =
     rw there refl
-    ∙ good-step c r listing.is_good (all_found r file.head.sequence slots (filter (lists kind name) listing.entries)) (entry_parts r file.head.sequence kind name slots listing.entries nothing)
-    (entries-all r file.head.sequence kind name slots listing.entries nothing)
+    ∙ good-step c r listing.is_good (all_found r file.head.sequence slots (filter (lists kind name) listing.entries)) (entry_parts r file.head.sequence kind name slots listing.entries no_parts)
+    (entries-all r file.head.sequence kind name slots listing.entries no_parts)
 
 pub is-there : (o : Option (List ℕ)) → (listing_of_bytes o).is_there ≡ true
 is-there None = refl
@@ -374,7 +374,7 @@ listing-told g f file found is =
 
 -- a resident list is its value
 pub list-value : (g : Geometry) (f : ℕ → List ℕ) (a : Attribute (Laid (List ℕ))) (file : FileRecord) → a.face.is_resident ≡ true → list_bytes_of g f a file ≡ Some a.face.value
-unfolding list_bytes
+unfolding bytes_of_list
 list-value g f a file is = rw is refl
 
 -- ---- faults in other words

@@ -9,7 +9,7 @@ use Rattle.ntfs_record.specs.FileRecord.{Laid}
 use Rattle.ntfs_record.specs.Slots.{Slot}
 use Rattle.ntfs_runs.specs.Cells.{Cells}
 use Rattle.ntfs_volume.specs.Gather.{Extent, all_found, found_in, lists}
-use Rattle.ntfs_volume.specs.Gathering.{First, Progress, added, all_taken, entry_part, entry_parts, finished, finished_from, first_finished, found_part, gathered_first, is_settled, nothing, runs_finished, taken}
+use Rattle.ntfs_volume.specs.Gathering.{First, Progress, added, all_taken, entry_part, entry_parts, finished, finished_from, first_finished, found_part, gathered_first, is_settled, no_parts, runs_finished, taken}
 use Rattle.ntfs_volume.specs.Located.{Located, slot_at}
 use Rattle.ntfs_volume.specs.References.{target}
 use Rattle.ntfs_volume.specs.StreamBytes.{have_room}
@@ -130,7 +130,7 @@ start-step c r p ps false right =
     ((p.lowest == 0) && join_from p.next ps) (p.runs.cells ++ cells_in ps)) (omega arith)
 
 -- all parts, one after the other, give the stream
-pub finish-all : (c r : ℕ) (ps : List (Part ℕ)) → finished c r (all_taken nothing ps) ≡ stream_of c r ps
+pub finish-all : (c r : ℕ) (ps : List (Part ℕ)) → finished c r (all_taken no_parts ps) ≡ stream_of c r ps
 unfolding finished_from all_taken taken added stream_of stream_of_runs all_right join_from cells_in
 finish-all c r [] = refl
 finish-all c r (p ∷ ps) = start-step c r p ps p.is_resident (p.runs.is_right && (length p.runs.cells == p.next - p.lowest))

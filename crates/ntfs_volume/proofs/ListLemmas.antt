@@ -19,7 +19,7 @@ use Rattle.ntfs_runs.specs.Reading.{reading, reading_from}
 use Rattle.ntfs_runs.specs.declared.run.Run.{Run}
 use Rattle.ntfs_runs.proofs.CellsLemmas.{cells_of-right, cells_of-wrong}
 use Rattle.ntfs_boot.specs.declared.geometry.Geometry.{Geometry}
-use Rattle.ntfs_volume.specs.Listing.{filled_attribute, filled_attributes, is_list_named, list_bytes, lists_named, most_list}
+use Rattle.ntfs_volume.specs.Listing.{filled_attribute, filled_attributes, is_list_named, bytes_of_list, lists_named, most_list}
 use Rattle.ntfs_volume.specs.ListViews.{is_shown_readable, list_bytes_of, readable_cells}
 use Rattle.ntfs_volume.specs.MftMap.{no_map}
 use Rattle.ntfs_volume.specs.StreamBytes.{have_room, runs_bytes}
@@ -188,7 +188,7 @@ length_cells f cells = length-map cells (option_map f)
 
 pub list-many : (g : Geometry) (f : ℕ → List ℕ) (a : Attribute (Laid (List ℕ))) (said : FileRecord) (name : List ℕ) → a.face.is_resident ≡ false → a.face.name ≡ name
     → (lists_named name (attributes_of said) == 1) ≡ false → list_bytes_of g f a said ≡ None
-unfolding list_bytes
+unfolding bytes_of_list
 list-many g f a said name resident same many =
     let count = lists-filled g.clusters f a.face.name (attributes_of said) ∙ ap (λ n. lists_named n (attributes_of said)) same in
     rw (resident, ap (λ n. n == 1) count ∙ many) refl
@@ -196,7 +196,7 @@ list-many g f a said name resident same many =
 list_one : (g : Geometry) (f : ℕ → List ℕ) (a : Attribute (Laid (List ℕ))) (said : FileRecord) (name : List ℕ) (readable : Bool) → a.face.is_resident ≡ false → a.face.name ≡ name
     → (lists_named name (attributes_of said) == 1) ≡ true → is_shown_readable g (shown_body_of a) ≡ readable
     → list_bytes_of g f a said ≡ (if readable then Some (runs_bytes g.cluster a.face.size a.face.valid (map_cells f (cells_below g.clusters a.payload.runs).cells)) else None)
-unfolding list_bytes
+unfolding bytes_of_list
 list_one g f a said name readable resident same one is =
     let count = lists-filled g.clusters f a.face.name (attributes_of said) ∙ ap (λ n. lists_named n (attributes_of said)) same in
     rw (resident, ap (λ n. n == 1) count ∙ one, length_cells f (cells_below g.clusters a.payload.runs).cells, is) refl

@@ -15,7 +15,7 @@ use Rattle.std.proofs.lemmas.List.{places, same_lists}
 use Rattle.ntfs_attrlist.specs.Entry.{Listed}
 use Rattle.ntfs_record.specs.FileRecord.{Attribute, FileRecord, attributes_of}
 use Rattle.ntfs_record.specs.Views.{Shown}
-use Rattle.ntfs_volume.specs.Known.{IsKnown, behind, extended_clusters, joined_clusters, known_clusters}
+use Rattle.ntfs_volume.specs.Known.{IsKnown, behind_known, extended_clusters, joined_clusters, known_clusters}
 use Rattle.ntfs_volume.specs.MftMap.{extension_of, extent_in, extent_of_entry, is_named, live_record, no_map, table_clusters}
 use Rattle.ntfs_volume.specs.References.{has_base, target}
 use Rattle.ntfs_volume.specs.Views.{is_wanted, told}
@@ -113,7 +113,7 @@ unfolding extended_clusters extension_of
 extended-other g f valid first known entry raw said is live base = rw (is, live, base) refl
 
 pub extended-own : (g : Geometry) (f : ℕ → List ℕ) (valid : ℕ) (first : FileRecord) (known : List ℕ) (entry : Listed) (raw : List ℕ) (said : FileRecord) → raw_of g.record_size (take valid (stream f known)) (target entry.reference) ≡ Some raw
-    → live_record raw ≡ Some said → has_base said.head.base 0 first.head.sequence ≡ true → extended_clusters g f valid first known entry ≡ behind known (extent_in g.clusters entry said)
+    → live_record raw ≡ Some said → has_base said.head.base 0 first.head.sequence ≡ true → extended_clusters g f valid first known entry ≡ behind_known known (extent_in g.clusters entry said)
 unfolding extended_clusters extension_of
 extended-own g f valid first known entry raw said is live base = rw (is, live, base) refl
 
@@ -156,11 +156,11 @@ pub entry-own : (g : Geometry) (f : ℕ → List ℕ) (valid : ℕ) (first : Fil
 unfolding extent_of_entry
 entry-own g f valid first known entry is own = rw (is, own) refl
 
-behind_chain : (known : List ℕ) (r : Result FileRecord VolumeFault) (k : FileRecord → Result (List ℕ) VolumeFault) → behind known (r >>= k) ≡ (r >>= (λ holder. behind known (k holder)))
+behind_chain : (known : List ℕ) (r : Result FileRecord VolumeFault) (k : FileRecord → Result (List ℕ) VolumeFault) → behind_known known (r >>= k) ≡ (r >>= (λ holder. behind_known known (k holder)))
 behind_chain known (Ok holder) k = refl
 behind_chain known (Err fault) k = refl
 
 pub entry-extension : (g : Geometry) (f : ℕ → List ℕ) (valid : ℕ) (first : FileRecord) (known : List ℕ) (entry : Listed) → (entry.lowest == length known) ≡ true → (target entry.reference == 0) ≡ false
-    → behind known (extent_of_entry g f valid first known entry) ≡ extended_clusters g f valid first known entry
+    → behind_known known (extent_of_entry g f valid first known entry) ≡ extended_clusters g f valid first known entry
 unfolding extent_of_entry extended_clusters
 entry-extension g f valid first known entry is own = rw (is, own) (behind_chain known (extension_of g f valid first known (target entry.reference)) (extent_in g.clusters entry))

@@ -15,7 +15,7 @@ use Rattle.ntfs_runs.specs.declared.run.Run.{Run}
 use Rattle.ntfs_runs.proofs.CellsLemmas.{are_cells-append, vcns-append}
 use Rattle.ntfs_base.specs.declared.refusal.Rule.TheVariants as rule
 use Rattle.ntfs_boot.specs.declared.geometry.Geometry.{Geometry}
-use Rattle.ntfs_volume.specs.Gathering.{AreParts, AreRuns, First, Progress, added, apart, finished, finished_from, first_finished, first_of, is_settled, joined, met, nothing, or_first, runs_finished, shown_first, shown_part, shown_parts, taken, wrong_in}
+use Rattle.ntfs_volume.specs.Gathering.{AreParts, AreRuns, First, Progress, added, apart, finished, finished_from, first_finished, first_of, is_settled, joined, met, no_parts, or_first, runs_finished, shown_first, shown_part, shown_parts, taken, wrong_in}
 use Rattle.ntfs_volume.specs.StreamBytes.{have_room}
 use Rattle.ntfs_volume.specs.StreamViews.{gathered_by}
 use Rattle.ntfs_volume.specs.Streams.{Gathered, IsReadable, Part, runs_stream, value_stream}
@@ -38,7 +38,7 @@ abbrev parts_of : Option FirstExtent → List Run → ℕ → Bool → Option �
 parts_of first runs next joins wrong count =
     record { first = first; runs = runs; next = next; joins = joins; wrong = wrong; count = count }
 
-pub parts-none : (runs : List Run) → runs ≡ [] → shown_parts (parts_of None runs 0 true None 0) ≡ nothing
+pub parts-none : (runs : List Run) → runs ≡ [] → shown_parts (parts_of None runs 0 true None 0) ≡ no_parts
 unfolding vcns
 parts-none runs is = rw is refl
 

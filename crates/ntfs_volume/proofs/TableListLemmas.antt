@@ -7,7 +7,7 @@ use Rattle.ntfs_record.specs.FileRecord.{Attribute, FileRecord, Laid, attributes
 use Rattle.ntfs_record.specs.Views.{Shown}
 use Rattle.ntfs_volume.specs.Known.{listed_clusters}
 use Rattle.ntfs_volume.specs.ListViews.{list_bytes_of}
-use Rattle.ntfs_volume.specs.Listing.{filled_attribute, filled_attributes, is_list, list_bytes, listing_in, listing_of_bytes}
+use Rattle.ntfs_volume.specs.Listing.{filled_attribute, filled_attributes, is_list, bytes_of_list, listing_in, listing_of_bytes}
 use Rattle.ntfs_volume.specs.MftMap.{all_clusters, clusters_by, further, no_map}
 use Rattle.ntfs_volume.specs.Views.{is_wanted, told}
 use Rattle.ntfs_volume.specs.declared.fault.VolumeFault.{VolumeFault}
@@ -43,7 +43,7 @@ all_listed g f valid first known a is = rw (find-filled g.clusters f (attributes
 
 pub all-resident : (g : Geometry) (f : ℕ → List ℕ) (valid : ℕ) (first : FileRecord) (known value : List ℕ) (s : Shown) → Some s ≡ find (is_wanted wanted.List) (map told (attributes_of first))
     → s.body.is_resident ≡ true → s.body.value ≡ value → all_clusters g f valid first known ≡ listed_clusters g f valid first known value
-unfolding listed_clusters list_bytes
+unfolding listed_clusters bytes_of_list
 all-resident g f valid first known value s is resident same =
     let found = found-some (find (λ (a : Attribute _). is_list a.face) (attributes_of first)) s (is ∙ list_wanted first) in
     all_listed g f valid first known found.0 found.1

@@ -14,7 +14,7 @@ use Rattle.ntfs_record.specs.Views.{Shown}
 use Rattle.ntfs_runs.specs.Cells.{are_cells}
 use Rattle.ntfs_runs.specs.Clusters.{AreWithin, vcns}
 use Rattle.ntfs_volume.specs.Fault.{volume_fault, volume_origin}
-use Rattle.ntfs_volume.specs.Known.{IsKnown, behind, joined_clusters, known_clusters}
+use Rattle.ntfs_volume.specs.Known.{IsKnown, behind_known, joined_clusters, known_clusters}
 use Rattle.ntfs_volume.specs.MftMap.{Map, all_clusters, begins_table, is_data, is_table, live_record, map_in, map_of, map_of_record, mft_map, no_map, table_clusters}
 use Rattle.ntfs_volume.specs.Opened.{Opened, opened_of}
 use Rattle.ntfs_volume.specs.StreamBytes.{clusters_in}
@@ -37,7 +37,7 @@ known-new n known is counted = record {
   counted = counted ∙ sym (ap (λ rs. length (vcns rs)) is);
 }
 
-behind_nil : (r : Result (List ℕ) VolumeFault) → behind [] r ≡ r
+behind_nil : (r : Result (List ℕ) VolumeFault) → behind_known [] r ≡ r
 behind_nil (Ok more) = refl
 behind_nil (Err fault) = refl
 

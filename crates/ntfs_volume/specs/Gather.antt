@@ -9,7 +9,7 @@ use Rattle.ntfs_base.specs.Frames.{must, ◌>>=◌}
 use Rattle.ntfs_base.specs.declared.refusal.Rule.TheVariants as rule
 use Rattle.ntfs_record.specs.FileRecord.{Attribute, Face, Head}
 use Rattle.ntfs_record.specs.Slots.{Slot}
-use Rattle.ntfs_volume.specs.Listing.{Listing}
+use Rattle.ntfs_volume.specs.Listing.{RecordListing}
 use Rattle.ntfs_volume.specs.Located.{slot_at}
 use Rattle.ntfs_volume.specs.References.{belongs, matches, target}
 use Rattle.ntfs_volume.specs.declared.fault.VolumeFault.{VolumeFault}
@@ -17,7 +17,7 @@ use Rattle.ntfs_volume.specs.declared.fault.VolumeFault.TheVariants as volume
 
 -- what the attribute list of the record of each number says; the word is ours
 abbrev pub Lists : Type 0
-Lists = ℕ → Listing
+Lists = ℕ → RecordListing
 
 -- what tells an attribute from others of its record (the Linux-NTFS documentation, "$ATTRIBUTE_LIST")
 pub record Id : Type 0 where
@@ -86,7 +86,7 @@ all_found r sequence slots (entry ∷ entries) = do
   Ok (extent ∷ extents)
 
 -- the extents that the list of record r names
-unfoldable pub listed_extents : {P : Type 0} → ℕ → ℕ → List ℕ → Listing → ℕ → List (Slot P)
+unfoldable pub listed_extents : {P : Type 0} → ℕ → ℕ → List ℕ → RecordListing → ℕ → List (Slot P)
     → Result (List (Extent P)) VolumeFault
 listed_extents r kind name listing sequence slots = do
   _ ← must listing.is_good (bad_list r)
@@ -100,7 +100,7 @@ own_extents r kind name base =
     map (extent_at r base.head) (filter (λ (a : Attribute _). is_of kind name (id_of a.face)) base.attributes)
 
 -- the extents of a base record that says this
-unfoldable pub extents_in : {P : Type 0} → ℕ → ℕ → List ℕ → Listing → Slot P → List (Slot P)
+unfoldable pub extents_in : {P : Type 0} → ℕ → ℕ → List ℕ → RecordListing → Slot P → List (Slot P)
     → Result (List (Extent P)) VolumeFault
 extents_in r kind name listing base slots =
     if listing.is_there then listed_extents r kind name listing base.head.sequence slots

@@ -13,7 +13,7 @@ use Rattle.ntfs_runs.specs.Cells.{Cells, are_cells, cells_below}
 use Rattle.ntfs_runs.specs.Clusters.{AreWithin, vcns}
 use Rattle.ntfs_runs.specs.declared.run.Run.{Run}
 use Rattle.ntfs_volume.specs.Gather.{Id, bad_list, bad_record, extents_in, found_in, is_of, lists, means}
-use Rattle.ntfs_volume.specs.Listing.{Listing, filled_attributes, listing_in}
+use Rattle.ntfs_volume.specs.Listing.{RecordListing, filled_attributes, listing_in}
 use Rattle.ntfs_volume.specs.Located.{Located, map_located, slot_at, slots_of, sound_located, with_cells}
 use Rattle.ntfs_volume.specs.MftMap.{Map}
 use Rattle.ntfs_volume.specs.Opened.{Opened}
@@ -48,19 +48,19 @@ pub record Progress : Type 0 where
   pub count : ℕ
 
 -- no part yet
-abbrev pub nothing : Progress
-nothing = record { first = None; cells = []; next = 0; joins = true; wrong = None; count = 0 }
+abbrev pub no_parts : Progress
+no_parts = record { first = None; cells = []; next = 0; joins = true; wrong = None; count = 0 }
 
 -- the value of a resident part
-abbrev pub value_of : Part ℕ → Option (List ℕ)
-value_of p = if p.is_resident then Some p.value else None
+abbrev pub resident_value : Part ℕ → Option (List ℕ)
+resident_value p = if p.is_resident then Some p.value else None
 
 abbrev pub first_of : Part ℕ → First
 first_of p = record {
   number = p.number;
   place = p.place;
   flags = p.flags;
-  value = value_of p;
+  value = resident_value p;
   size = p.size;
   valid = p.valid;
 }
@@ -253,7 +253,7 @@ entry_parts r sequence kind name slots (entry ∷ entries) p = do
   entry_parts r sequence kind name slots entries q
 
 -- the extents that a list tells
-unfoldable pub listed_parts : ℕ → ℕ → ℕ → List ℕ → List (Slot (Located (Laid (Cells ℕ)))) → Listing → Progress
+unfoldable pub listed_parts : ℕ → ℕ → ℕ → List ℕ → List (Slot (Located (Laid (Cells ℕ)))) → RecordListing → Progress
     → Result Progress VolumeFault
 listed_parts r sequence kind name slots listing p = do
   _ ← must listing.is_good (bad_list r)
@@ -296,7 +296,7 @@ volume_slots o content =
     with_cells o.geometry.clusters (slots_of o.geometry o.map (cluster_at content o.geometry.cluster))
 
 -- what a base record says of its attribute list, where f gives the bytes of each cluster
-abbrev pub file_lists : Geometry → (ℕ → List ℕ) → FileRecord → Listing
+abbrev pub file_lists : Geometry → (ℕ → List ℕ) → FileRecord → RecordListing
 file_lists g f file = listing_in g.cluster (filled_attributes g.clusters f (attributes_of file))
 
 -- what was read last is the record of this number
@@ -305,14 +305,14 @@ HoldsRecord o content held = (n : ℕ) → held.number ≡ Some n
     → read_of o.geometry o.map (cluster_at content o.geometry.cluster) n ≡ Ok held.block.items
 
 -- the stream of a base record that says this
-unfoldable pub stream_in_file : ℕ → ℕ → ℕ → List ℕ → Listing → Slot (Located (Laid (Cells ℕ)))
+unfoldable pub stream_in_file : ℕ → ℕ → ℕ → List ℕ → RecordListing → Slot (Located (Laid (Cells ℕ)))
     → List (Slot (Located (Laid (Cells ℕ)))) → Result (Gathered ℕ) VolumeFault
 stream_in_file c r kind name listing base slots = do
   found ← extents_in r kind name listing base slots
   stream_of c r (map part_of found)
 
 -- the record of a number of a volume
-abbrev pub file_of : Geometry → Map → (ℕ → List ℕ) → ℕ → Result FileRecord VolumeFault
-file_of g map f r = do
+abbrev pub file_at : Geometry → Map → (ℕ → List ℕ) → ℕ → Result FileRecord VolumeFault
+file_at g map f r = do
   block ← read_of g map f r
   refused_as (λ _. bad_record r) (parse_of block)

@@ -23,21 +23,21 @@ pub record IsKnown (n : ℕ) (known : Known) : Type 0 where
   pub counted : known.count ≡ length (vcns known.runs)
 
 -- what a result gives, behind the clusters that are known
-abbrev pub behind : List ℕ → Result (List ℕ) VolumeFault → Result (List ℕ) VolumeFault
-behind before result = do
+abbrev pub behind_known : List ℕ → Result (List ℕ) VolumeFault → Result (List ℕ) VolumeFault
+behind_known before result = do
   more ← result
   Ok (before ++ more)
 
 -- the clusters of mapping pairs of record r behind those that are known
 abbrev pub joined_clusters : List ℕ → ℕ → ℕ → List ℕ → Result (List ℕ) VolumeFault
-joined_clusters before n r pairs = behind before (table_clusters n r pairs)
+joined_clusters before n r pairs = behind_known before (table_clusters n r pairs)
 
 -- the extent of an entry whose record isn't record 0, behind the clusters that are known
 unfoldable pub extended_clusters : Geometry → (ℕ → List ℕ) → ℕ → FileRecord → List ℕ → Listed
     → Result (List ℕ) VolumeFault
 extended_clusters g f valid first known entry = do
   holder ← extension_of g f valid first known (target entry.reference)
-  behind known (extent_in g.clusters entry holder)
+  behind_known known (extent_in g.clusters entry holder)
 
 -- the clusters of all extents, where these are the bytes of the list
 unfoldable pub listed_clusters : Geometry → (ℕ → List ℕ) → ℕ → FileRecord → List ℕ → List ℕ

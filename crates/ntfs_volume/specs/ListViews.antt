@@ -7,7 +7,7 @@ use Rattle.ntfs_record.specs.Views.{ShownBody}
 use Rattle.ntfs_runs.specs.Cells.{cells_below}
 use Rattle.ntfs_runs.specs.Clusters.{vcns}
 use Rattle.ntfs_runs.specs.declared.run.Run.{Run}
-use Rattle.ntfs_volume.specs.Listing.{filled_attribute, filled_attributes, list_bytes, most_list}
+use Rattle.ntfs_volume.specs.Listing.{filled_attribute, filled_attributes, bytes_of_list, most_list}
 use Rattle.ntfs_volume.specs.MftMap.{no_map}
 use Rattle.ntfs_volume.specs.StreamBytes.{have_room}
 use Rattle.ntfs_volume.specs.declared.fault.VolumeFault.{VolumeFault}
@@ -28,7 +28,7 @@ readable_cells g b = do
 -- the bytes of a list of a record, of which f gives those of each cluster
 abbrev pub list_bytes_of : Geometry → (ℕ → List ℕ) → Attribute (Laid (List ℕ)) → FileRecord → Option (List ℕ)
 list_bytes_of g f a said =
-    list_bytes g.cluster (filled_attribute g.clusters f a) (filled_attributes g.clusters f (attributes_of said))
+    bytes_of_list g.cluster (filled_attribute g.clusters f a) (filled_attributes g.clusters f (attributes_of said))
 
 -- runs with room for a list of these sizes
 pub record FitsList (g : Geometry) (body : ShownBody) (runs : List Run) : Type 0 where

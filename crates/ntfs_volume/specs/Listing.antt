@@ -11,7 +11,7 @@ use Rattle.ntfs_runs.specs.Cells.{Cells, cells_below, map_cells}
 use Rattle.ntfs_volume.specs.StreamBytes.{have_room, runs_bytes}
 
 -- the list of a record: without one there are no entries and nothing is wrong, and one that can't be read has none
-pub record Listing : Type 0 where
+pub record RecordListing : Type 0 where
   pub is_there : Bool
   pub is_good : Bool
   pub entries : List Listed
@@ -39,39 +39,39 @@ is_readable_list c face cells =
     && (nat_le face.size most_list && have_room c (length cells.cells) face.size face.valid))
 
 -- the bytes of a list: its value, or those of its clusters, where it is one extent and can be read
-unfoldable pub list_bytes : ℕ → Attribute (Laid (Cells (List ℕ))) → List (Attribute (Laid (Cells (List ℕ))))
+unfoldable pub bytes_of_list : ℕ → Attribute (Laid (Cells (List ℕ))) → List (Attribute (Laid (Cells (List ℕ))))
     → Option (List ℕ)
-list_bytes c a attributes =
+bytes_of_list c a attributes =
     if a.face.is_resident then Some a.face.value
     else (if (lists_named a.face.name attributes == 1) && is_readable_list c a.face a.payload.runs
     then Some (runs_bytes c a.face.size a.face.valid a.payload.runs.cells) else None)
 
 -- no list
-abbrev pub no_listing : Listing
+abbrev pub no_listing : RecordListing
 no_listing = record { is_there = false; is_good = true; entries = [] }
 
 -- a list that can't be read
-abbrev pub bad_listing : Listing
+abbrev pub bad_listing : RecordListing
 bad_listing = record { is_there = true; is_good = false; entries = [] }
 
 -- the entries of a list, or a place at which none stands
-abbrev pub listing_of_entries : Result (List Listed) BadEntry → Listing
+abbrev pub listing_of_entries : Result (List Listed) BadEntry → RecordListing
 listing_of_entries (Ok entries) = record { is_there = true; is_good = true; entries = entries }
 listing_of_entries (Err fault) = bad_listing
 
 -- what the bytes of a list say
-abbrev pub listing_of_bytes : Option (List ℕ) → Listing
+abbrev pub listing_of_bytes : Option (List ℕ) → RecordListing
 listing_of_bytes None = bad_listing
 listing_of_bytes (Some bytes) = listing_of_entries (list_entries bytes)
 
 -- what the first list says
 abbrev pub listing_of : ℕ → Option (Attribute (Laid (Cells (List ℕ)))) → List (Attribute (Laid (Cells (List ℕ))))
-    → Listing
+    → RecordListing
 listing_of c None attributes = no_listing
-listing_of c (Some a) attributes = listing_of_bytes (list_bytes c a attributes)
+listing_of c (Some a) attributes = listing_of_bytes (bytes_of_list c a attributes)
 
 -- what the attributes of a record say of its list, where their cells have the bytes of clusters of c bytes
-unfoldable pub listing_in : ℕ → List (Attribute (Laid (Cells (List ℕ)))) → Listing
+unfoldable pub listing_in : ℕ → List (Attribute (Laid (Cells (List ℕ)))) → RecordListing
 listing_in c attributes = listing_of c (find (λ (a : Attribute _). is_list a.face) attributes) attributes
 
 -- ---- cells with the bytes of their clusters

@@ -41,8 +41,8 @@ abbrev pub idle : {P : Type 0} → Bool → Slot P
 idle baad = record { is_live = false; is_sound = false; is_baad = baad; head = blank_head; attributes = [] }
 
 -- a record in use with which something is wrong
-abbrev pub unsound : {P : Type 0} → Slot P
-unsound = record { is_live = true; is_sound = false; is_baad = false; head = blank_head; attributes = [] }
+abbrev pub unsound_located : {P : Type 0} → Slot P
+unsound_located = record { is_live = true; is_sound = false; is_baad = false; head = blank_head; attributes = [] }
 
 -- a record in use that says this
 abbrev pub sound_located : FileRecord → Slot (Located (Laid (List ℕ)))
@@ -51,8 +51,8 @@ sound_located file =
 
 -- a record in use, which says this or can't be read; one that tells another number isn't sound
 abbrev pub live_located : ℕ → Option FileRecord → Slot (Located (Laid (List ℕ)))
-live_located n None = unsound
-live_located n (Some file) = if tells_own n file.layout.number then sound_located file else unsound
+live_located n None = unsound_located
+live_located n (Some file) = if tells_own n file.layout.number then sound_located file else unsound_located
 
 -- the record of this number, where its bytes lie wholly in the initialised part of $MFT
 unfoldable pub located_slot : ℕ → Option (List ℕ) → Slot (Located (Laid (List ℕ)))

@@ -13,7 +13,7 @@ use Rattle.ntfs_record.specs.FileRecord.{Attribute, Face, FileRecord, attributes
 use Rattle.ntfs_record.specs.Slots.{is_in_use, record_in}
 use Rattle.ntfs_runs.specs.Cells.{are_cells, cells_of}
 use Rattle.ntfs_runs.specs.Clusters.{row}
-use Rattle.ntfs_volume.specs.Listing.{Listing, filled_attributes, listing_in}
+use Rattle.ntfs_volume.specs.Listing.{RecordListing, filled_attributes, listing_in}
 use Rattle.ntfs_volume.specs.References.{has_base, target}
 use Rattle.ntfs_volume.specs.StreamBytes.{clusters_in, have_room}
 use Rattle.ntfs_volume.specs.declared.fault.VolumeFault.{VolumeFault}
@@ -99,11 +99,11 @@ further g f valid first known (entry ∷ entries) = do
 -- ---- the map
 
 -- what record 0 says of its attribute list
-abbrev pub table_listing : Geometry → (ℕ → List ℕ) → FileRecord → Listing
+abbrev pub table_listing : Geometry → (ℕ → List ℕ) → FileRecord → RecordListing
 table_listing g f first = listing_in g.cluster (filled_attributes g.clusters f (attributes_of first))
 
 -- the clusters of all extents that a list tells, from those of the first on
-unfoldable pub clusters_by : Geometry → (ℕ → List ℕ) → ℕ → FileRecord → List ℕ → Listing → Result (List ℕ) VolumeFault
+unfoldable pub clusters_by : Geometry → (ℕ → List ℕ) → ℕ → FileRecord → List ℕ → RecordListing → Result (List ℕ) VolumeFault
 clusters_by g f valid first known listing = do
   _ ← must listing.is_good (no_map 0)
   further g f valid first known (filter is_further listing.entries)

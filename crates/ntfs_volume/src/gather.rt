@@ -9,7 +9,7 @@ ghost use Rattle.ntfs_record.specs.FileRecord.{Attribute, Laid};
 ghost use Rattle.ntfs_record.specs.Views.{HasBounds, placed_of, shown_body, shown_placed, shown_view};
 ghost use Rattle.ntfs_volume.specs.Fault.{volume_origin};
 ghost use Rattle.ntfs_volume.specs.Gather as gathering;
-ghost use Rattle.ntfs_volume.specs.Gathering.{AreParts, HoldsRecord, cell_slot, file_lists, finished, finished_of, found_part, is_meant, listed_parts, nothing, shown_id, shown_parts, shown_parts_of, stream_in_file, volume_slots};
+ghost use Rattle.ntfs_volume.specs.Gathering.{AreParts, HoldsRecord, cell_slot, file_lists, finished, finished_of, found_part, is_meant, listed_parts, no_parts, shown_id, shown_parts, shown_parts_of, stream_in_file, volume_slots};
 ghost use Rattle.ntfs_volume.specs.Gathering as faults;
 ghost use Rattle.ntfs_volume.specs.ListViews.{list_bytes_of};
 ghost use Rattle.ntfs_volume.specs.Listing.{listing_of_bytes};
@@ -373,7 +373,7 @@ fn gather_own(
 ) -> Result<Stream, VolumeFault>
     ensures gives { Gives volume_origin (λ stream. stream) (finished table.now.geometry.cluster goal.now.number
         (shown_parts_of table.now.geometry.clusters goal.now.number goal.now.kind goal.now.name.now
-        (map shown_placed (placed_of base.now)) nothing)) result }
+        (map shown_placed (placed_of base.now)) no_parts)) result }
     ensures readable { IfOk result (λ found. IsReadable table.now.geometry found.stream) }
     ensures judged { IsJudged volume_origin result }
 {
@@ -401,7 +401,7 @@ fn gather_listed<G: Image>(
         → Gives volume_origin (λ stream. stream) (finished_of table.now.geometry.cluster goal.now.number
         (listed_parts goal.now.number goal.now.sequence goal.now.kind goal.now.name.now
         (volume_slots table.now content) (listing_of_bytes (list_bytes_of table.now.geometry
-        (cluster_at content table.now.geometry.cluster) a base.now)) nothing)) result) }
+        (cluster_at content table.now.geometry.cluster) a base.now)) no_parts)) result) }
     ensures readable { IfOk result (λ found. IsReadable table.now.geometry found.stream) }
     ensures reads { OnlyReads G.Image volume_origin image.old image.new result }
 {

@@ -9,7 +9,7 @@ ghost use Rattle.ntfs_boot.specs.Geometry.{IsGood, IsOpened, bytes_of_clusters};
 ghost use Rattle.ntfs_fixup.specs.Fixups.{HasWholeStrides};
 ghost use Rattle.ntfs_runs.specs.Clusters.{vcns};
 ghost use Rattle.ntfs_volume.specs.Fault.{volume_origin};
-ghost use Rattle.ntfs_volume.specs.Known.{IsKnown, behind, extended_clusters, known_clusters, listed_clusters};
+ghost use Rattle.ntfs_volume.specs.Known.{IsKnown, behind_known, extended_clusters, known_clusters, listed_clusters};
 ghost use Rattle.ntfs_volume.specs.MftMap.{all_clusters, extension_of, extent_in, extent_of_entry, is_further, is_record_count, is_table, map_in, map_of_record, mft_map};
 ghost use Rattle.ntfs_volume.specs.Opened.{HasClusters, opened_of};
 ghost use Rattle.ntfs_volume.specs.References as references;
@@ -62,7 +62,7 @@ fn add_extent(
 ) -> Result<(), VolumeFault>
     requires known { IsKnown geometry.now.clusters known.old }
     requires begins { entry.now.lowest ≡ known.old.count }
-    ensures gives { Gives volume_origin (λ done. known_clusters known.new) (behind (known_clusters known.old)
+    ensures gives { Gives volume_origin (λ done. known_clusters known.new) (behind_known (known_clusters known.old)
         (extent_in geometry.now.clusters (shown_entry entry.now) holder.now)) result }
     ensures known { OnOk result (IsKnown geometry.now.clusters known.new) }
     ensures judged { IsJudged volume_origin result }
@@ -133,7 +133,7 @@ fn add_entry<G: Image>(
     requires known { IsKnown geometry.now.clusters known.old }
     requires block { length block.old ≡ geometry.now.record_size }
     ensures gives { IfTold G.Image image.old (λ content. Gives volume_origin (λ done. known_clusters known.new)
-        (behind (known_clusters known.old) (extent_of_entry geometry.now (cluster_at content geometry.now.cluster)
+        (behind_known (known_clusters known.old) (extent_of_entry geometry.now (cluster_at content geometry.now.cluster)
         valid first.now (known_clusters known.old) (shown_entry entry.now))) result) }
     ensures known { OnOk result (IsKnown geometry.now.clusters known.new) }
     ensures block { length block.new ≡ length block.old }

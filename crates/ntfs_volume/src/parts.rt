@@ -6,7 +6,7 @@ ghost use Rattle.ntfs_record.specs.Views.{shown_view};
 ghost use Rattle.ntfs_runs.specs.Cells.{are_cells};
 ghost use Rattle.ntfs_runs.specs.Clusters.{AreWithin, vcns};
 ghost use Rattle.ntfs_volume.specs.Fault.{volume_origin};
-ghost use Rattle.ntfs_volume.specs.Gathering.{AreParts, AreRuns, added, finished, first_of, is_settled, joined, met, nothing, shown_first, shown_part, shown_parts, taken};
+ghost use Rattle.ntfs_volume.specs.Gathering.{AreParts, AreRuns, added, finished, first_of, is_settled, joined, met, no_parts, shown_first, shown_part, shown_parts, taken};
 ghost use Rattle.ntfs_volume.specs.StreamBytes as bytes;
 ghost use Rattle.ntfs_volume.specs.Streams.{IsReadable};
 
@@ -125,7 +125,7 @@ fn first_of(alloc: Global, number: u64, extent: &AttributeView<'_>) -> Result<Fi
 impl Parts {
     /// No part yet.
     pub(crate) fn new(alloc: Global) -> Parts
-        ensures shown { shown_parts result ≡ nothing }
+        ensures shown { shown_parts result ≡ no_parts }
         ensures parts { (n : ℕ) → AreParts n result }
     {
         Parts {

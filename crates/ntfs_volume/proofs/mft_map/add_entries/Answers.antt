@@ -11,7 +11,7 @@ use Rattle.ntfs_base.specs.Image.{ImageState}
 use Rattle.ntfs_base.proofs.FramesLemmas.{told_still}
 use Rattle.ntfs_boot.specs.Geometry.{IsOpened}
 use Rattle.ntfs_volume.specs.Fault.{volume_origin}
-use Rattle.ntfs_volume.specs.Known.{behind, known_clusters}
+use Rattle.ntfs_volume.specs.Known.{behind_known, known_clusters}
 use Rattle.ntfs_volume.specs.MftMap.{extent_of_entry, further, is_further}
 use Rattle.ntfs_volume.proofs.EntriesLemmas.{because-more, entry-skip, entry-take, entry-wrong, further-ends, further-more, further-stops, listed-bad, listed-good, right_entries}
 use Rattle.ntfs_volume.proofs.mft_map.add_entries.Goals as goal
@@ -48,7 +48,7 @@ entries-preserved-in-Continue-1 g c =
     let shown : ◌≡◌ {A = List (Result Listed BadEntry)} c.entries.item-iterator (Ok e ∷ c.next.new.self)
     = c.in-Some.ensures.steps ∙ ap (λ i. shown_item i ∷ c.next.new.self) c.in-Ok.is in
     let before = known_clusters c.entries.known in
-    let read = told_still g.G.Image _ _ (λ content. behind before (extent_of_entry k (cluster_at content k.cluster) a.valid a.first.now before e) ≡ Ok (known_clusters c.add_entry.new.known))
+    let read = told_still g.G.Image _ _ (λ content. behind_known before (extent_of_entry k (cluster_at content k.cluster) a.valid a.first.now before e) ≡ Ok (known_clusters c.add_entry.new.known))
     c.entries.invariant.seen c.in_ok-add_entry.ensures.gives in
     record {
       can = tt;
@@ -75,7 +75,7 @@ returns-in_err-add_entry-clause-gives g c told =
     = c.in-Some.ensures.steps ∙ ap (λ i. shown_item i ∷ c.next.new.self) c.in-Ok.is in
     let before = known_clusters c.entries.known in
     let fault = c.in_err-add_entry.field-0.0 in
-    let read = told_still g.G.Image _ _ (λ content. IsSettled (volume_origin fault) → behind before (extent_of_entry k (cluster_at content k.cluster) a.valid a.first.now before e) ≡ Err fault)
+    let read = told_still g.G.Image _ _ (λ content. IsSettled (volume_origin fault) → behind_known before (extent_of_entry k (cluster_at content k.cluster) a.valid a.first.now before e) ≡ Err fault)
     c.entries.invariant.seen c.in_err-add_entry.ensures.gives in
     rw (p.1, p.2) (λ settled.
     listed-good k f a.valid a.first.now (known_clusters a.known.now) a.list.now c.into_iter-item-iterator.result

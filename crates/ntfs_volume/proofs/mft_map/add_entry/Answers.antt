@@ -3,7 +3,7 @@ use Rattle.std.proofs.lemmas.Bool.{eq-eqb, ne_eqb}
 use Rattle.ntfs_attrlist.specs.Views.{shown_entry}
 use Rattle.ntfs_base.specs.Bytes.{cluster_at}
 use Rattle.ntfs_volume.specs.Fault.{volume_origin}
-use Rattle.ntfs_volume.specs.Known.{behind, known_clusters}
+use Rattle.ntfs_volume.specs.Known.{behind_known, known_clusters}
 use Rattle.ntfs_volume.proofs.AnswerLemmas.{gives_by}
 use Rattle.ntfs_volume.proofs.MapLemmas.{entry-extension, entry-gap, entry-own, known-count}
 use Rattle.ntfs_volume.proofs.mft_map.add_entry.Goals as goal
@@ -17,7 +17,7 @@ returns-then-entry-known-clause-gives g c told settled =
     let known = known_clusters a.known.now in
     let gap : (e.lowest == length known) ≡ false
     = ap (λ n. e.lowest == n) (known-count k.clusters a.known.now c.requires.known) ∙ ne_eqb a.entry.now.lowest a.known.now.count c.if-entry-known.true in
-    ap (behind known) (entry-gap k f a.valid a.first.now known e gap) ∙ ap Err (sym c.no_map.ensures)
+    ap (behind_known known) (entry-gap k f a.valid a.first.now known e gap) ∙ ap Err (sym c.no_map.ensures)
 
 pub returns-then-target-eq0-clause-gives : goal.returns-then-target-eq0-clause-gives
 returns-then-target-eq0-clause-gives g c told =
@@ -29,7 +29,7 @@ returns-then-target-eq0-clause-gives g c told =
     let meets : (e.lowest == length known) ≡ true
     = ap (λ n. e.lowest == n) (known-count k.clusters a.known.now c.requires.known) ∙ eq-eqb a.entry.now.lowest a.known.now.count c.if-entry-known.false in
     gives_by volume_origin _ _ _ c.add_extent.result
-    (ap (behind known) (entry-own k f a.valid a.first.now known e meets (ap (λ n. n == 0) (sym c.target.ensures) ∙ eq-eqb c.target.result 0 c.if-target-eq0.true))) c.add_extent.ensures.gives
+    (ap (behind_known known) (entry-own k f a.valid a.first.now known e meets (ap (λ n. n == 0) (sym c.target.ensures) ∙ eq-eqb c.target.result 0 c.if-target-eq0.true))) c.add_extent.ensures.gives
 
 pub returns-clause-gives : goal.returns-clause-gives
 returns-clause-gives g c told =

@@ -5,7 +5,7 @@ use Rattle.ntfs_record.specs.FileRecord.{attributes_of}
 use Rattle.ntfs_record.specs.Views.{shown_body}
 use Rattle.ntfs_record.specs.declared.attribute.Body.{Body}
 use Rattle.ntfs_volume.specs.Fault.{volume_origin}
-use Rattle.ntfs_volume.specs.Known.{behind, joined_clusters, known_clusters}
+use Rattle.ntfs_volume.specs.Known.{behind_known, joined_clusters, known_clusters}
 use Rattle.ntfs_volume.specs.MftMap.{is_data}
 use Rattle.ntfs_volume.specs.Views.{is_wanted, told, told_view}
 use Rattle.ntfs_volume.specs.declared.wanted.Wanted.TheVariants as wanted
@@ -16,11 +16,11 @@ use Rattle.ntfs_volume.proofs.mft_map.add_extent.Goals as goal
 
 pub returns-in-None-clause-gives : goal.returns-in-None-clause-gives
 returns-in-None-clause-gives c settled =
-    ap (behind (known_clusters c.args.known.now)) (extent-none c.args.geometry.now.clusters (shown_entry c.args.entry.now) c.args.holder.now c.in-None.ensures.found) ∙ ap Err (sym c.no_map.ensures)
+    ap (behind_known (known_clusters c.args.known.now)) (extent-none c.args.geometry.now.clusters (shown_entry c.args.entry.now) c.args.holder.now c.in-None.ensures.found) ∙ ap Err (sym c.no_map.ensures)
 
 pub returns-in-Resident-clause-gives : goal.returns-in-Resident-clause-gives
 returns-in-Resident-clause-gives c settled =
-    ap (behind (known_clusters c.args.known.now)) (extent-resident c.args.geometry.now.clusters (shown_entry c.args.entry.now) c.args.holder.now (told_view c.in-Some.extent) c.in-Some.ensures.found (ap (λ (b : Body). (shown_body b).is_resident) c.in-Resident.is))
+    ap (behind_known (known_clusters c.args.known.now)) (extent-resident c.args.geometry.now.clusters (shown_entry c.args.entry.now) c.args.holder.now (told_view c.in-Some.extent) c.in-Some.ensures.found (ap (λ (b : Body). (shown_body b).is_resident) c.in-Resident.is))
     ∙ ap Err (sym c.no_map-in-Resident.ensures)
 
 pub add-requires-clause-few : goal.add-requires-clause-few
@@ -36,6 +36,6 @@ returns-in-Runs-clause-gives c =
     let known = known_clusters c.args.known.now in
     let n = c.args.geometry.now.clusters in
     gives_by volume_origin _ _ _ c.add.result
-    (ap (behind known) (extent-runs n (shown_entry c.args.entry.now) c.args.holder.now (told_view c.in-Some.extent) c.in-Runs.pairs.now c.in-Some.ensures.found
+    (ap (behind_known known) (extent-runs n (shown_entry c.args.entry.now) c.args.holder.now (told_view c.in-Some.extent) c.in-Runs.pairs.now c.in-Some.ensures.found
     (ap (λ (b : Body). (shown_body b).is_resident) c.in-Runs.is) (ap (λ (b : Body). (shown_body b).pairs) c.in-Runs.is))
     ∙ ap (λ t. joined_clusters known n t c.in-Runs.pairs.now) (sym c.target.ensures)) c.add.ensures.gives
