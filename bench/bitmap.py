@@ -7,13 +7,9 @@ It writes a program over the crate into a temporary folder, has `rt run` prove a
 over its rounds. The repository is only read.
 """
 
-import pathlib
-import re
 import shutil
-import subprocess
-import tempfile
 
-from measure import TOP
+from measure import peak, program_over
 
 NAME = "bench_bitmap"
 ORDERS = ("ascending", "scattered")
@@ -114,12 +110,6 @@ invariant-runs l = bound_of l.set ≡ 4194304
 """
 
 
-def peak(program, words):
-    """The peak memory of the program in KiB: with one word of ascending claims, with two of scattered ones, with three of none."""
-    done = subprocess.run(["/usr/bin/time", "-f", "%M", program] + words * ["word"], capture_output=True, text=True, check=True)
-    return int(done.stderr.split()[-1])
-
-
 def report(program, lines):
     for order, name in enumerate(ORDERS):
         rounds = [line for line in lines if line[0] == order]
@@ -129,26 +119,13 @@ def report(program, lines):
         print(f"counted   {counted:8} us")
         print(f"compared  {compared:8} us")
         if shutil.which("/usr/bin/time"):
+            # with one word the claims ascend, with two they are scattered, with three there are none
             print(f"memory    {peak(program, 1 + order) - peak(program, 3):8} KiB")
 
 
 def main():
-    with tempfile.TemporaryDirectory() as folder:
-        top = pathlib.Path(folder)
-        shutil.copytree(TOP / "crates" / "ntfs_bitmap", top / "crates" / "ntfs_bitmap", ignore=shutil.ignore_patterns("must-fail", "out"))
-        source = top / "crates" / NAME / "src"
-        source.mkdir(parents=True)
-        (source / "main.rt").write_text(PROGRAM)
-        proof = source.parent / "proofs" / "claim_all"
-        proof.mkdir(parents=True)
-        (proof / "Invariants.antt").write_text(INVARIANT)
-        (top / "crates.txt").write_text(f"ntfs_bitmap:\n{NAME}: ntfs_bitmap\n")
-        built = subprocess.run(["rt", "run"], cwd=source.parent, capture_output=True, text=True)
-        program = source.parent / "out" / NAME
-        found = re.findall(r"^(\d) (\d+) (\d+) (\d+) (true|false)$", built.stdout, re.MULTILINE)
-        if not found or any(right != "true" for *_, right in found):
-            raise SystemExit(built.stdout + built.stderr)
-        report(program, [tuple(int(number) for number in numbers) for *numbers, _ in found])
+    with program_over(["ntfs_bitmap"], NAME, PROGRAM, proofs={"proofs/claim_all/Invariants.antt": INVARIANT}) as (program, rounds):
+        report(program, rounds)
 
 
 if __name__ == "__main__":

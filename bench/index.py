@@ -6,13 +6,9 @@ It writes a program over the crates of this repository into a temporary folder, 
 least time of each step over its rounds. The repository is only read.
 """
 
-import pathlib
-import re
 import shutil
-import subprocess
-import tempfile
 
-from measure import TOP
+from measure import peak, program_over
 
 CRATES = ("ntfs_base", "ntfs_boot", "ntfs_fixup", "ntfs_index")
 NAME = "bench_index"
@@ -67,7 +63,7 @@ fn put_entry(node: &mut Vec<u8>, reference: u64, ends: bool, child: Option<u64>)
 fn put_header(node: &mut Vec<u8>, first: u32, entries: &[u8]) -> Result<(), AllocError>
     requires { first < 1000 }
 {
-    let used = first.wrapping_add(entries.len() as u32);
+    let used = first + (entries.len() % 65536) as u32;
     node.extend_from_slice(&first.to_le_bytes())?;
     node.extend_from_slice(&used.to_le_bytes())?;
     node.extend_from_slice(&used.to_le_bytes())?;
@@ -79,7 +75,7 @@ fn guard(block: &mut [u8])
     requires { length block.old ≡ BLOCK }
 {
     LittleEndian::write_u16(&mut block[0x28..], 7);
-    for stride in 0..8usize {
+    'strides: for stride in 0..8usize {
         let last = 512 * stride + 510;
         let saved = LittleEndian::read_u16(&block[last..]);
         LittleEndian::write_u16(&mut block[0x2A + 2 * stride..], saved);
@@ -93,7 +89,7 @@ fn put_block(alloc: Global, blocks: &mut Vec<u8>, entries: &[u8]) -> Result<(), 
     block.extend_from_slice(b"INDX\\x28\\0\\x09\\0\\0\\0\\0\\0\\0\\0\\0\\0")?;
     block.extend_from_slice(&((blocks.len() / BLOCK) as u64).to_le_bytes())?;
     put_header(&mut block, (FIRST - 0x18) as u32, entries)?;
-    while block.len() < FIRST {
+    for _ in 0..FIRST.saturating_sub(block.len()) {
         block.push(0)?;
     }
     block.extend_from_slice(entries)?;
@@ -185,7 +181,7 @@ fn walk(alloc: Global, root: &[u8], geometry: &Geometry, blocks: &mut MemBlocks)
 }
 
 fn geometry() -> Geometry
-    ensures { result.block ≡ 4096 }
+    ensures block { result.block ≡ 4096 }
     ensures cluster { result.cluster ≡ 4096 }
 {
     Geometry {
@@ -245,11 +241,24 @@ fn main(rt: HostRuntime) -> io::Result<()> {
 }
 """
 
+# the invariant of a loop of each function, by the function's name
+INVARIANTS = {
+    "guard": "strides l = length l.block ≡ 4096",
+    "fetch": "fetched l = (length l.into ≡ l.blocks.size) × (l.blocks.size ≡ l.initial.blocks.size)",
+    "walk": "walked l = (l.walk.size ≡ 4096) × (l.blocks.size ≡ 4096)",
+    "measure": "rounds g l = l.blocks.size ≡ 4096",
+}
 
-def peak(program, words):
-    """The peak memory of the program in KiB: with one word it walks, with three it only fetches."""
-    done = subprocess.run(["/usr/bin/time", "-f", "%M", program] + words * ["word"], capture_output=True, text=True, check=True)
-    return int(done.stderr.split()[-1])
+
+def proof_of(function, invariant):
+    """The file that gives a loop's invariant."""
+    loop = invariant.split()[0]
+    return (
+        "use Rattle.std.proofs.Common.{◌≡◌, length}\n"
+        f"use Rattle.{NAME}.proofs.{function}.Given as goal\n\n"
+        f"abbrev pub invariant-{loop} : goal.invariant-{loop}\n"
+        f"invariant-{invariant}\n"
+    )
 
 
 def report(program, lines):
@@ -260,26 +269,14 @@ def report(program, lines):
         print(f"fetched   {fetched:8} us")
         print(f"walked    {walked:8} us, {walked / max(fetched, 1):.2f} of fetching")
     if shutil.which("/usr/bin/time"):
+        # with one word the program walks, with three it only fetches
         print(f"memory    {peak(program, 1) - peak(program, 3):8} KiB more than fetching")
 
 
 def main():
-    with tempfile.TemporaryDirectory() as folder:
-        top = pathlib.Path(folder)
-        for crate in CRATES:
-            shutil.copytree(TOP / "crates" / crate, top / "crates" / crate, ignore=shutil.ignore_patterns("must-fail", "out"))
-        source = top / "crates" / NAME / "src"
-        source.mkdir(parents=True)
-        (source / "main.rt").write_text(PROGRAM)
-        lines = [line for line in (TOP / "crates.txt").read_text().splitlines() if line.split(":")[0] in CRATES]
-        lines.append(f"{NAME}: ntfs_boot ntfs_index byteorder")
-        (top / "crates.txt").write_text("\n".join(lines) + "\n")
-        built = subprocess.run(["rt", "run"], cwd=source.parent, capture_output=True, text=True)
-        program = source.parent / "out" / NAME
-        found = re.findall(r"^(\d+) (\d+) (\d+) (true|false)$", built.stdout, re.MULTILINE)
-        if not found or any(right != "true" for *_, right in found):
-            raise SystemExit(built.stdout + built.stderr)
-        report(program, [tuple(int(number) for number in numbers) for *numbers, _ in found])
+    proofs = {f"proofs/{function}/Invariants.antt": proof_of(function, invariant) for function, invariant in INVARIANTS.items()}
+    with program_over(CRATES, NAME, PROGRAM, "ntfs_boot ntfs_index", proofs) as (program, rounds):
+        report(program, rounds)
 
 
 if __name__ == "__main__":
