@@ -17,7 +17,7 @@ const AT_RECORD_28: usize = 40_960;
 /// The bytes of the stream of record 32: its number, and from there on one more each.
 fn file_00(alloc: Global) -> Result<Vec<u8>, AllocError> {
     let mut bytes = Vec::new(alloc);
-    for j in 0..4096 {
+    for j in 0..4096u32 {
         bytes.push(((32 + j) % 256) as u8)?;
     }
     Ok(bytes)
