@@ -9,6 +9,9 @@ mod TableListLemmas
 mod TableMapLemmas
 mod ListLemmas
 mod LawLemmas
+mod ExtentsLemmas
+mod MappedLemmas
+mod ToldLemmas
 mod GatherCells
 mod PartsLemmas
 mod GatherSteps
