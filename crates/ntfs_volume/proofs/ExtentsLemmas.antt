@@ -172,7 +172,7 @@ all-map : {A B : Type 0} (P : B → Type 0) (f : A → B) (xs : List A) → AllB
 all-map P f [] are = tt
 all-map P f (x ∷ xs) are = (are.0, all-map P f xs are.1)
 
-all-weaker : {A : Type 0} (P Q : A → Type 0) → ((x : A) → P x → Q x) → (xs : List A) → AllByRecursion P xs → AllByRecursion Q xs
+pub all-weaker : {A : Type 0} (P Q : A → Type 0) → ((x : A) → P x → Q x) → (xs : List A) → AllByRecursion P xs → AllByRecursion Q xs
 all-weaker P Q f [] are = tt
 all-weaker P Q f (x ∷ xs) are = (f x are.0, all-weaker P Q f xs are.1)
 

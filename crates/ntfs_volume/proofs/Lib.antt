@@ -11,6 +11,7 @@ mod ListLemmas
 mod LawLemmas
 mod ExtentsLemmas
 mod MappedLemmas
+mod StreamLemmas
 mod ToldLemmas
 mod GatherCells
 mod PartsLemmas

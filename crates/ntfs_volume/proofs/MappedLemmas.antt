@@ -1,33 +1,26 @@
 -- Extents and streams with something else in place of attributes, or of what stands for the clusters.
-use Rattle.std.proofs.Common.{◌≡◌, ◌+◌, ◌-◌, ◌==◌, ◌&&◌, ◌||◌, ◌++◌, ℕ, zero, suc, List, [], ◌∷◌, length, map, refl, sym, ap, ◌∙◌, subst, arith, cond, Bool, true, false, Option, Some, None, Result, Ok, Err, if◌then◌else◌}
+use Rattle.std.proofs.Common.{◌≡◌, ◌+◌, ◌-◌, ◌==◌, ◌&&◌, ◌||◌, ◌++◌, ℕ, zero, suc, List, [], ◌∷◌, length, map, refl, sym, ap, ◌∙◌, arith, cond, Bool, true, false, Option, Some, None, Result, Ok, Err, if◌then◌else◌}
 use Rattle.std.specs.Prelude.{filter, find, not}
-use Rattle.std.specs.List.{AllByRecursion}
 use Rattle.std.specs.Option.{ok_or, option_map}
 use Rattle.std.specs.Result.{result_map_both}
-use Rattle.std.proofs.lemmas.Bool.{and_from, false≢true}
 use Rattle.std.proofs.lemmas.List.{length-map, map-append}
 use Rattle.ntfs_attrlist.specs.Entry.{Listed}
 use Rattle.ntfs_base.specs.Frames.{must, ◌>>=◌}
 use Rattle.ntfs_base.specs.declared.refusal.Rule.TheVariants as rule
-use Rattle.ntfs_boot.specs.declared.geometry.Geometry.{Geometry}
 use Rattle.ntfs_record.specs.FileRecord.{Attribute, Head, Laid}
 use Rattle.ntfs_record.specs.Slots.{Slot, map_laid, map_slot, map_slots, on_payload}
 use Rattle.ntfs_record.proofs.SlotLemmas.{map_slots-map_slots}
-use Rattle.ntfs_runs.specs.Cells.{Cells, are_cells, cells_below, cells_of, map_cells}
-use Rattle.ntfs_runs.proofs.CellsLemmas.{are_cells-append}
+use Rattle.ntfs_runs.specs.Cells.{Cells, cells_below, map_cells}
 use Rattle.ntfs_volume.specs.Gather.{Extent, KeepsIds, Lists, all_found, bad_list, bad_record, extent_at, extents, extents_in, found_in, id_of, is_member, is_of, listed_extents, lists, mapped, means, own_extents}
 use Rattle.ntfs_volume.specs.Laws.{in_cells, in_located}
 use Rattle.ntfs_volume.specs.Listing.{RecordListing, filled_cells}
-use Rattle.ntfs_volume.specs.Located.{Located, map_located, slot_at, slots_of, with_cells}
-use Rattle.ntfs_volume.specs.MftMap.{Map}
+use Rattle.ntfs_volume.specs.Located.{Located, map_located, slot_at, with_cells}
 use Rattle.ntfs_volume.specs.References.{target}
 use Rattle.ntfs_volume.specs.StreamBytes.{have_room}
-use Rattle.ntfs_volume.specs.Streams.{Gathered, IsReadable, Part, all_right, cells_in, gather, gather_of, gathered_at, is_right, join_from, lists_of, map_gathered, part_of, runs_stream, stream_of, stream_of_runs, value_stream}
+use Rattle.ntfs_volume.specs.Streams.{Gathered, Part, all_right, cells_in, gather, gathered_at, is_right, join_from, map_gathered, part_of, runs_stream, stream_of, stream_of_runs, value_stream}
 use Rattle.ntfs_volume.specs.declared.fault.VolumeFault.{VolumeFault}
 use Rattle.ntfs_volume.specs.declared.fault.VolumeFault.TheVariants as volume
-use Rattle.ntfs_volume.proofs.AnswerLemmas.{and-left, and-right, bind-ok, must-parts}
 use Rattle.ntfs_volume.proofs.ListLemmas.{find-map}
-use Rattle.ntfs_volume.proofs.PartsLemmas.{value-readable}
 
 -- ---- chains and lists
 
@@ -220,72 +213,3 @@ gather-filled f n c listings slots r kind name =
     let cells : ℕ → Head → Attribute (Located (Laid (List ℕ))) → Attribute (Located (Laid (Cells ℕ))) = on_payload (map_located (map_laid (cells_below n))) in
     ap (λ them. gather c listings them r kind name) (sym (map_slots-map_slots cells (on_payload (in_located (λ place. place) f)) 0 slots))
     ∙ gather-mapped (λ place. place) f c listings (map_slots cells 0 slots) r kind name
-
--- ---- what is gathered can be read
-
--- the cells of a part are below n where its pairs are right
-abbrev AreBelow : ℕ → Part ℕ → Type 0
-AreBelow n p = p.runs.is_right ≡ true → are_cells true n p.runs.cells ≡ true
-
-below : (n : ℕ) (pairs : List ℕ) → (cells_below n pairs).is_right ≡ true → are_cells true n (cells_below n pairs).cells ≡ true
-unfolding cells_below
-below n pairs is = and-right (cells_of pairs).is_right (are_cells true n (cells_of pairs).cells) is
-
-parts-below : (n : ℕ) (es : List (Extent (Located (Laid (List ℕ))))) → AllByRecursion (AreBelow n) (map part_of (map (mapped (on_payload (map_located (map_laid (cells_below n))))) es))
-parts-below n [] = tt
-parts-below n (e ∷ es) = (below n e.attribute.payload.payload.runs, parts-below n es)
-
-not-resident : (resident right joins : Bool) → (resident || right) ≡ true → (not resident && joins) ≡ true → right ≡ true
-not-resident false right joins is join = is
-not-resident true right joins is join = absurd (false≢true join)
-
-cells-below : (n next : ℕ) (ps : List (Part ℕ)) (u : Unit {0}) → all_right ps ≡ Ok u → join_from next ps ≡ true → AllByRecursion (AreBelow n) ps → are_cells true n (cells_in ps) ≡ true
-unfolding all_right join_from cells_in are_cells
-cells-below n next [] u right join are = refl
-cells-below n next (p ∷ ps) u right join are =
-    let pairs = p.runs.is_right && (length p.runs.cells == p.next - p.lowest) in
-    let joins = (p.lowest == next) && join_from p.next ps in
-    let parts = must-parts (is_right p) (volume.Damaged rule.C7 p.number) (all_right ps) u right in
-    let own = not-resident p.is_resident pairs joins parts.0 join in
-    let rest = and-right (p.lowest == next) (join_from p.next ps) (and-right (not p.is_resident) joins join) in
-    are_cells-append true n p.runs.cells (cells_in ps)
-    ∙ and_from (are_cells true n p.runs.cells) (are_cells true n (cells_in ps)) (are.0 (and-left p.runs.is_right (length p.runs.cells == p.next - p.lowest) own)) (cells-below n p.next ps u parts.1 rest are.1)
-
-runs-readable : (g : Geometry) (r : ℕ) (first : Part ℕ) (ps : List (Part ℕ)) (gathered : Gathered ℕ) → AllByRecursion (AreBelow g.clusters) ps → stream_of_runs g.cluster r first ps ≡ Ok gathered → IsReadable g gathered.stream
-unfolding stream_of_runs
-runs-readable g r first ps gathered are is =
-    let stream = runs_stream first.flags first.size first.valid (cells_in ps) in
-    let test = join_from 0 ps && have_room g.cluster (length (cells_in ps)) first.size first.valid in
-    let last : Result (Gathered ℕ) VolumeFault = Ok (gathered_at first (length ps) stream) in
-    let all = bind-ok (all_right ps) (λ _. must test (volume.Damaged rule.C12 r) >>= (λ _. last)) gathered is in
-    let fits = must-parts test (volume.Damaged rule.C12 r) last gathered all.2 in
-    let same : gathered_at first (length ps) stream ≡ gathered = let last_is = fits.1 in cc in
-    subst (λ (s : Gathered ℕ). IsReadable g s.stream) same (record {
-      cells = cells-below g.clusters 0 ps all.0 all.1 (and-left (join_from 0 ps) (have_room g.cluster (length (cells_in ps)) first.size first.valid) fits.0) are;
-      room = λ _. and-right (join_from 0 ps) (have_room g.cluster (length (cells_in ps)) first.size first.valid) fits.0;
-    })
-
-stream-readable : (g : Geometry) (r : ℕ) (ps : List (Part ℕ)) (gathered : Gathered ℕ) → AllByRecursion (AreBelow g.clusters) ps → stream_of g.cluster r ps ≡ Ok gathered → IsReadable g gathered.stream
-unfolding stream_of
-stream-readable g r [] gathered are is = absurd cc
-stream-readable g r (first ∷ ps) gathered are is = step first.is_resident is
-  where
-    step : (b : Bool) → (if b then Ok (gathered_at first (length (first ∷ ps)) (value_stream first.flags first.value)) else stream_of_runs g.cluster r first (first ∷ ps)) ≡ Ok gathered → IsReadable g gathered.stream
-    step true is = let same : gathered_at first (length (first ∷ ps)) (value_stream first.flags first.value) ≡ gathered = cc in subst (λ (s : Gathered ℕ). IsReadable g s.stream) same (value-readable g first.flags first.value)
-    step false is = runs-readable g r first (first ∷ ps) gathered are is
-
--- the value that was mapped
-through-ok : {A B : Type 0} (g : A → B) (r : Result A VolumeFault) (x : B) → through g r ≡ Ok x → (a : A) × (g a ≡ x)
-through-ok g (Ok a) x is = (a, let same : g a ≡ x = cc in same)
-through-ok g (Err fault) x is = absurd cc
-
-pub gathered-readable : (g : Geometry) (table : Map) (f : ℕ → List ℕ) (r kind : ℕ) (name : List ℕ) (gathered : Gathered ℕ) → gather_of g table f r kind name ≡ Ok gathered → IsReadable g gathered.stream
-unfolding gather_of gather with_cells
-gathered-readable g table f r kind name gathered is =
-    let slots = slots_of g table f in
-    let listings = lists_of g f slots in
-    let cells : ℕ → Head → Attribute (Located (Laid (List ℕ))) → Attribute (Located (Laid (Cells ℕ))) = on_payload (map_located (map_laid (cells_below g.clusters))) in
-    let found = bind-ok (extents listings (map_slots cells 0 slots) r kind name) (λ es. stream_of g.cluster r (map part_of es)) gathered is in
-    let raw = through-ok (map (mapped cells)) (extents listings slots r kind name) found.0 (sym (extents-mapped cells listings slots r kind name (λ r h a. refl)) ∙ found.1) in
-    let are = subst (λ (es : List (Extent (Located (Laid (Cells ℕ))))). AllByRecursion (AreBelow g.clusters) (map part_of es)) raw.1 (parts-below g.clusters raw.0) in
-    stream-readable g r (map part_of found.0) gathered are found.2

@@ -1,15 +1,15 @@
--- What the laws of a volume speak of. The words are ours; each form is that of the definition that it names.
+-- What the laws of a volume speak of. The words are ours.
 use Rattle.std.specs.Prelude.{◌≡◌, ◌⊎◌, ◌*◌, ◌/◌, ℕ, true, List, [], ◌∷◌, ◌++◌, Contains, drop, filter, find, length, map, take, Option, Some, None, if◌then◌else◌}
 use Rattle.std.specs.List.{AllByRecursion}
 use Rattle.ntfs_attrlist.specs.Entry.{Listed}
 use Rattle.ntfs_base.specs.Bytes.{stream}
 use Rattle.ntfs_boot.specs.declared.geometry.Geometry.{Geometry}
 use Rattle.ntfs_record.specs.FileRecord.{Attribute, FileRecord, Laid, attributes_of}
-use Rattle.ntfs_record.specs.Slots.{Slot, map_laid}
+use Rattle.ntfs_record.specs.Slots.{Slot, map_laid, map_slots, on_payload}
 use Rattle.ntfs_runs.specs.Cells.{Cells, cells_below, cells_of, map_cells}
 use Rattle.ntfs_volume.specs.Gather.{Extent, id_of, is_member, lists, means}
-use Rattle.ntfs_volume.specs.Listing.{RecordListing, is_list}
-use Rattle.ntfs_volume.specs.Located.{Located, slot_at, unlocated}
+use Rattle.ntfs_volume.specs.Listing.{RecordListing, filled_cells, is_list}
+use Rattle.ntfs_volume.specs.Located.{Located, map_located, slot_at, unlocated}
 use Rattle.ntfs_volume.specs.MftMap.{Map, begins_table, head_clusters, live_record}
 use Rattle.ntfs_volume.specs.References.{has_base, target}
 use Rattle.ntfs_volume.specs.StreamBytes.{clusters_in}
@@ -38,10 +38,14 @@ clusters_of_list n (Some a) = if a.face.is_resident then [] else clusters_in (ce
 abbrev pub list_clusters : ℕ → List (Attribute (Laid (List ℕ))) → List ℕ
 list_clusters n attributes = clusters_of_list n (find (λ (a : Attribute _). is_list a.face) attributes)
 
--- those of a record, where there is one
+-- those of the list of a record, where there is such a record
 abbrev pub clusters_of_listing : ℕ → Option FileRecord → List ℕ
 clusters_of_listing n None = []
 clusters_of_listing n (Some r) = list_clusters n (attributes_of r)
+
+-- the attributes of record r, without their places
+abbrev pub attributes_at : {P : Type 0} → ℕ → List (Slot (Located P)) → List (Attribute P)
+attributes_at r slots = map unlocated (slot_at slots r).attributes
 
 -- the clusters that tell this map: those of the record 0 at the boot sector's cluster, those of its attribute list, and
 -- the map's own
@@ -49,13 +53,13 @@ abbrev pub told_by : Geometry → (ℕ → List ℕ) → Map → List ℕ
 told_by g f map =
     head_clusters g ++ (clusters_of_listing g.clusters (live_record (head_bytes g f)) ++ map.clusters)
 
--- these are the clusters of the first extent of $MFT that a record 0 tells
+-- these are the clusters of the first extent of $MFT, as this record 0 tells it
 pub record IsFirstExtent (first : FileRecord) (clusters : List ℕ) : Type 0 where
   pub attribute : Attribute (Laid (List ℕ))
   pub found : find (λ (a : Attribute _). begins_table a.face) (attributes_of first) ≡ Some attribute
   pub cells : clusters ≡ clusters_in (cells_of attribute.payload.runs).cells
 
--- the clusters from the r-th record of a size on, where a cluster has c bytes
+-- the clusters from the one on in which the r-th record of a size begins, where a cluster has c bytes
 abbrev pub clusters_from : ℕ → ℕ → ℕ → List ℕ → List ℕ
 clusters_from size c r clusters = drop ((r * size) / c) clusters
 
@@ -97,19 +101,35 @@ abbrev pub gathered_from : ℕ → ℕ → List ℕ → RecordListing → List �
 gathered_from r kind name listing =
     r ∷ map (λ (entry : Listed). target entry.reference) (filter (lists kind name) listing.entries)
 
--- the attributes of record r, without their places
-abbrev pub attributes_at : {P : Type 0} → ℕ → List (Slot (Located P)) → List (Attribute P)
-attributes_at r slots = map unlocated (slot_at slots r).attributes
-
--- two volumes have the same records at these numbers
+-- two volumes have the same records of these numbers
 abbrev pub SameRecords : {P : Type 0} → List (Slot P) → List (Slot P) → List ℕ → Type 0
 SameRecords slots others numbers = AllByRecursion (λ n. slot_at slots n ≡ slot_at others n) numbers
 
--- ---- cells with something else in place of each cluster
+-- the cell stands in the mapping pairs of an extent of base record r
+pub record IsOfMember {X : Type 0} (slots : List (Slot (Located (Laid (Cells X))))) (r kind : ℕ) (name : List ℕ)
+    (cell : Option X) : Type 0 where
+  pub extent : Extent (Located (Laid (Cells X)))
+  pub member : IsMember slots r extent
+  pub named : IsOf kind name extent
+  pub stands : Contains extent.attribute.payload.payload.runs.cells cell
 
+-- ---- something else in place of each cluster
+
+-- in cells
 abbrev pub in_cells : {X Y : Type 0} → (X → Y) → Cells X → Cells Y
 in_cells f cells = record { is_right = cells.is_right; cells = map_cells f cells.cells }
 
--- and of each place
+-- in an attribute's cells, and something else in place of its place
 abbrev pub in_located : {X Y : Type 0} → (ℕ → ℕ) → (X → Y) → Located (Laid (Cells X)) → Located (Laid (Cells Y))
 in_located moved f l = record { place = moved l.place; payload = map_laid (in_cells f) l.payload }
+
+-- in all records
+abbrev pub in_slots : {X Y : Type 0} → (ℕ → ℕ) → (X → Y) → List (Slot (Located (Laid (Cells X))))
+    → List (Slot (Located (Laid (Cells Y))))
+in_slots moved f slots = map_slots (on_payload (in_located moved f)) 0 slots
+
+-- the records with the cells that their mapping pairs spell on a volume of n clusters, and the bytes that f gives of
+-- each cluster in its place
+abbrev pub with_bytes : ℕ → (ℕ → List ℕ) → List (Slot (Located (Laid (List ℕ))))
+    → List (Slot (Located (Laid (Cells (List ℕ)))))
+with_bytes n f slots = map_slots (on_payload (map_located (map_laid (filled_cells n f)))) 0 slots

@@ -9,12 +9,11 @@ ghost use Rattle.ntfs_boot.specs.Geometry.{volume_geometry};
 ghost use Rattle.ntfs_boot.specs.declared.geometry.Geometry.{Geometry};
 ghost use Rattle.ntfs_record.specs.FileRecord.{Attribute, FileRecord, Head, Laid};
 ghost use Rattle.ntfs_record.specs.Parsing.{parse_of};
-ghost use Rattle.ntfs_record.specs.Slots.{Slot, map_laid, map_slots, on_payload, slot_of, sound_slot, unsound_slot};
+ghost use Rattle.ntfs_record.specs.Slots.{Slot, map_slots, slot_of, sound_slot, unsound_slot};
 ghost use Rattle.ntfs_runs.specs.Cells.{Cells};
 ghost use Rattle.ntfs_volume.specs.Gather.{Extent, KeepsIds, Lists, extent_at, extents, id_of, is_of, lists, mapped};
-ghost use Rattle.ntfs_volume.specs.Laws.{AgreeAt, HaveLength, IsBase, IsFirstExtent, IsMember, IsNamedBy, IsOf, SameRecords, clusters_from, gathered_from, attributes_at, head_bytes, in_located, list_clusters, told_by};
-ghost use Rattle.ntfs_volume.specs.Listing.{filled_cells};
-ghost use Rattle.ntfs_volume.specs.Located.{Located, map_located, slot_at, slots_of, with_cells};
+ghost use Rattle.ntfs_volume.specs.Laws.{AgreeAt, HaveLength, IsBase, IsFirstExtent, IsMember, IsNamedBy, IsOf, IsOfMember, SameRecords, clusters_from, gathered_from, attributes_at, head_bytes, in_slots, list_clusters, told_by, with_bytes};
+ghost use Rattle.ntfs_volume.specs.Located.{Located, slot_at, slots_of, with_cells};
 ghost use Rattle.ntfs_volume.specs.MftMap.{Map, further, head_clusters, live_record, mft_map};
 ghost use Rattle.ntfs_volume.specs.Opened.{Opened, opened_of};
 ghost use Rattle.ntfs_volume.specs.Records.{raw_record, read_of, unsound};
@@ -59,8 +58,8 @@ pub fn map_begins_at_the_boot_sector()
         → g.record_size ≤ map.valid → raw_record g map f 0 ≡ Some (head_bytes g f) }
 {}
 
-/// A record's bytes are those of the map's clusters from the record's number times its size on, within the initialised
-/// part; where each cluster has its bytes, they begin in the cluster at that place.
+/// A record's bytes are those of the map's clusters from the record's number times its size on, and lie in the
+/// initialised part; where each cluster has its whole length, they begin in the cluster at that place.
 pub fn a_record_is_its_clusters()
     ensures bytes { (g : Geometry) (map : Map) (f : ℕ → List ℕ) (r : ℕ) (raw : List ℕ)
         → raw_record g map f r ≡ Some raw
@@ -102,8 +101,8 @@ pub fn records_are_slots()
 {}
 
 /// Only of a base record that is in use and sound are there extents. Without an attribute list they are its own
-/// attributes of that type and name, in their order; with one, each entry of that type and name has one, in the list's
-/// order, and extents that entries name so are those.
+/// attributes of that type and name, in their order; with one they are those that its entries of that type and name
+/// name, one for each entry, in the list's order.
 pub fn extents_are_of_the_base<P>()
     ensures base { (listings : Lists) (slots : List (Slot P)) (r kind : ℕ) (name : List ℕ) (found : List (Extent P))
         → extents listings slots r kind name ≡ Ok found → IsBase slots r }
@@ -130,6 +129,14 @@ pub fn extents_are_members<P>()
     ensures named { (listings : Lists) (slots : List (Slot P)) (r kind : ℕ) (name : List ℕ)
         (found : List (Extent P)) → extents listings slots r kind name ≡ Ok found
         → AllByRecursion (IsOf kind name) found }
+{}
+
+/// Each cell of a stream stands in the mapping pairs of an extent: of an attribute of that type and name, in the base
+/// record or in one that has it as its base.
+pub fn cells_are_of_members<X>()
+    ensures { (c : ℕ) (listings : Lists) (slots : List (Slot (Located (Laid (Cells X))))) (r kind : ℕ) (name : List ℕ)
+        (gathered : Gathered X) → gather c listings slots r kind name ≡ Ok gathered
+        → AllByRecursion (IsOfMember slots r kind name) gathered.stream.cells }
 {}
 
 /// Gathering reads the base record, its list, and the records that entries of that type and name name, and nothing
@@ -159,11 +166,11 @@ pub fn extents_of_mapped_records<P, Q>()
 pub fn gathering_maps<X, Y>()
     ensures clusters { (moved : ℕ → ℕ) (f : X → Y) (c : ℕ) (listings : Lists)
         (slots : List (Slot (Located (Laid (Cells X))))) (r kind : ℕ) (name : List ℕ)
-        → gather c listings (map_slots (on_payload (in_located moved f)) 0 slots) r kind name
+        → gather c listings (in_slots moved f slots) r kind name
         ≡ result_map_both (map_gathered moved f) (λ fault. fault) (gather c listings slots r kind name) }
     ensures filled { (f : ℕ → List ℕ) (n c : ℕ) (listings : Lists) (slots : List (Slot (Located (Laid (List ℕ)))))
         (r kind : ℕ) (name : List ℕ)
-        → gather c listings (map_slots (on_payload (map_located (map_laid (filled_cells n f)))) 0 slots) r kind name
+        → gather c listings (with_bytes n f slots) r kind name
         ≡ result_map_both (map_gathered (λ place. place) f) (λ fault. fault)
         (gather c listings (with_cells n slots) r kind name) }
 {}

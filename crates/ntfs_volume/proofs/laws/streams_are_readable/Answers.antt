@@ -1,4 +1,4 @@
-use Rattle.ntfs_volume.proofs.MappedLemmas.{gathered-readable}
+use Rattle.ntfs_volume.proofs.StreamLemmas.{gathered-readable}
 use Rattle.ntfs_volume.proofs.laws.streams_are_readable.Goals as goal
 
 pub returns : goal.returns
