@@ -24,6 +24,10 @@ use Rattle.ntfs_volume.proofs.AnswerLemmas.{and-left, and-right, bind-ok, must-p
 
 -- ---- of a base record
 
+-- what is found in the file of record r, where this is a base record in use and sound
+abbrev pub of_slot : {P : Type 0} → ℕ → Slot P → Result (List (Extent P)) VolumeFault → Result (List (Extent P)) VolumeFault
+of_slot r base found = must base.is_live volume.Absent >>= (λ _. must base.is_sound (bad_record r) >>= (λ _. must (base.head.base == 0) volume.Absent >>= (λ _. found)))
+
 base-parts : {P : Type 0} (listings : Lists) (slots : List (Slot P)) (r kind : ℕ) (name : List ℕ) (found : List (Extent P)) → extents listings slots r kind name ≡ Ok found
     → IsBase slots r × (extents_in r kind name (listings r) (slot_at slots r) slots ≡ Ok found)
 unfolding extents
@@ -280,10 +284,9 @@ pub extents-same : {P : Type 0} (listings others : Lists) (slots rest : List (Sl
     → SameRecords slots rest (gathered_from r kind name (listings r)) → extents listings slots r kind name ≡ extents others rest r kind name
 unfolding extents
 extents-same {P = P} listings others slots rest r kind name list same =
-    ap (λ (found : Result (List (Extent P)) VolumeFault). must (slot_at slots r).is_live volume.Absent >>= (λ _. must (slot_at slots r).is_sound (bad_record r) >>= (λ _. must ((slot_at slots r).head.base == 0) volume.Absent >>= (λ _. found))))
-    (in-same r kind name (listings r) (slot_at slots r) slots rest same.1)
-    ∙ ap (λ (base : Slot P). must base.is_live volume.Absent >>= (λ _. must base.is_sound (bad_record r) >>= (λ _. must (base.head.base == 0) volume.Absent >>= (λ _. extents_in r kind name (listings r) base rest)))) same.0
-    ∙ ap (λ (listing : RecordListing). must (slot_at rest r).is_live volume.Absent >>= (λ _. must (slot_at rest r).is_sound (bad_record r) >>= (λ _. must ((slot_at rest r).head.base == 0) volume.Absent >>= (λ _. extents_in r kind name listing (slot_at rest r) rest)))) list
+    ap (of_slot r (slot_at slots r)) (in-same r kind name (listings r) (slot_at slots r) slots rest same.1)
+    ∙ ap (λ (base : Slot P). of_slot r base (extents_in r kind name (listings r) base rest)) same.0
+    ∙ ap (λ (listing : RecordListing). of_slot r (slot_at rest r) (extents_in r kind name listing (slot_at rest r) rest)) list
 
 pub streams-same : {X : Type 0} (c : ℕ) (listings others : Lists) (slots rest : List (Slot (Located (Laid (Cells X))))) (r kind : ℕ) (name : List ℕ) → listings r ≡ others r
     → SameRecords slots rest (gathered_from r kind name (listings r)) → gather c listings slots r kind name ≡ gather c others rest r kind name

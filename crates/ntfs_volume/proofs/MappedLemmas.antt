@@ -20,6 +20,7 @@ use Rattle.ntfs_volume.specs.StreamBytes.{have_room}
 use Rattle.ntfs_volume.specs.Streams.{Gathered, Part, all_right, cells_in, gather, gathered_at, is_right, join_from, map_gathered, part_of, runs_stream, stream_of, stream_of_runs, value_stream}
 use Rattle.ntfs_volume.specs.declared.fault.VolumeFault.{VolumeFault}
 use Rattle.ntfs_volume.specs.declared.fault.VolumeFault.TheVariants as volume
+use Rattle.ntfs_volume.proofs.ExtentsLemmas.{of_slot}
 use Rattle.ntfs_volume.proofs.ListLemmas.{find-map}
 
 -- ---- chains and lists
@@ -129,7 +130,7 @@ unfolding extents
 extents-mapped {P = P} {Q = Q} f listings slots r kind name keeps =
     let base = slot_at slots r in
     let g : List (Extent P) → List (Extent Q) = map (mapped f) in
-    ap (λ (s : Slot Q). must s.is_live volume.Absent >>= (λ _. must s.is_sound (bad_record r) >>= (λ _. must (s.head.base == 0) volume.Absent >>= (λ _. extents_in r kind name (listings r) s (map_slots f 0 slots))))) (slot-mapped f slots r)
+    ap (λ (s : Slot Q). of_slot r s (extents_in r kind name (listings r) s (map_slots f 0 slots))) (slot-mapped f slots r)
     ∙ must-through g base.is_live volume.Absent _ _
     (must-through g base.is_sound (bad_record r) _ _
     (must-through g (base.head.base == 0) volume.Absent _ _ (in-mapped f keeps r kind name (listings r) base slots)))
