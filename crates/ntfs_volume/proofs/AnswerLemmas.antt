@@ -1,7 +1,8 @@
 -- Answers that a definition gives, and their expected value in other words.
-use Rattle.std.proofs.Common.{◌≡◌, sym, subst, Result, Ok, Err, Bool, true, false, ◌&&◌, refl}
+use Rattle.std.proofs.Common.{◌≡◌, sym, subst, Option, Some, None, Result, Ok, Err, Bool, true, false, ◌&&◌, refl}
+use Rattle.std.specs.Option.{ok_or}
 use Rattle.std.proofs.lemmas.Bool.{false≢true}
-use Rattle.ntfs_base.specs.Frames.{Origin, IsSettled, Gives}
+use Rattle.ntfs_base.specs.Frames.{Origin, IsSettled, Gives, must, ◌>>=◌}
 
 pub gives_by : {T U E : Type 0} (origin : E → Origin) (view : T → U) (a b : Result U E) (result : Result T E) → a ≡ b
     → Gives origin view b result → Gives origin view a result
@@ -23,3 +24,19 @@ and-left false b is = is
 pub and-right : (a b : Bool) → (a && b) ≡ true → b ≡ true
 and-right true b is = is
 and-right false b is = absurd (false≢true is)
+
+-- ---- the parts of a chain that gives a value
+
+pub bind-ok : {A B E : Type 0} (r : Result A E) (k : A → Result B E) (x : B) → (r >>= k) ≡ Ok x → (a : A) × (r ≡ Ok a) × (k a ≡ Ok x)
+bind-ok (Ok a) k x is = (a, refl, is)
+bind-ok (Err e) k x is = absurd cc
+
+-- a test, and what stands behind it
+pub must-parts : {A E : Type 0} (b : Bool) (fault : E) (rest : Result A E) (x : A) → (must b fault >>= (λ _. rest)) ≡ Ok x → (b ≡ true) × (rest ≡ Ok x)
+must-parts true fault rest x is = (refl, is)
+must-parts false fault rest x is = absurd cc
+
+-- a value that must be there, and what stands behind it
+pub some-parts : {A B E : Type 0} (o : Option A) (fault : E) (k : A → Result B E) (x : B) → (ok_or o fault >>= k) ≡ Ok x → (a : A) × (o ≡ Some a) × (k a ≡ Ok x)
+some-parts (Some a) fault k x is = (a, refl, is)
+some-parts None fault k x is = absurd cc

@@ -14,16 +14,12 @@ use Rattle.ntfs_record.specs.Parsing.{parse_of}
 use Rattle.ntfs_record.specs.Slots.{is_in_use, live_slot, record_in, slot_of, sound_slot, tells_own, unsound_slot}
 use Rattle.ntfs_record.proofs.SlotLemmas.{slot-idle, slot-live, slot-other, slot-own}
 use Rattle.ntfs_record.specs.declared.fault.RecordFault.{RecordFault}
+use Rattle.ntfs_volume.proofs.AnswerLemmas.{bind-ok}
 use Rattle.ntfs_volume.specs.Laws.{AgreeAt}
 use Rattle.ntfs_volume.specs.MftMap.{Map, extension_of, extent_of_entry, further}
 use Rattle.ntfs_volume.specs.Records.{raw_record, read_of, unfixed_record, unsound}
 use Rattle.ntfs_volume.specs.declared.fault.VolumeFault.{VolumeFault}
 use Rattle.ntfs_volume.specs.declared.fault.VolumeFault.TheVariants as volume
-
--- both parts of a chain that gives a value
-bind-ok : {A B E : Type 0} (r : Result A E) (k : A → Result B E) (x : B) → (r >>= k) ≡ Ok x → (a : A) × (r ≡ Ok a) × (k a ≡ Ok x)
-bind-ok (Ok a) k x is = (a, refl, is)
-bind-ok (Err e) k x is = absurd cc
 
 pub grows : (g : Geometry) (f : ℕ → List ℕ) (valid : ℕ) (first : FileRecord) (known : List ℕ) (entries : List Listed) (all : List ℕ)
     → further g f valid first known entries ≡ Ok all → (rest : List ℕ) × (all ≡ known ++ rest)
@@ -34,11 +30,11 @@ grows g f valid first known (entry ∷ entries) all is =
     let rest = grows g f valid first (known ++ step.0) entries all step.2 in
     (step.0 ++ rest.0, rest.1 ∙ append_assoc known step.0 rest.0)
 
-agree-front : (f h : ℕ → List ℕ) (front rest : List ℕ) → AgreeAt f h (front ++ rest) → AgreeAt f h front
+pub agree-front : (f h : ℕ → List ℕ) (front rest : List ℕ) → AgreeAt f h (front ++ rest) → AgreeAt f h front
 agree-front f h [] rest are = tt
 agree-front f h (k ∷ front) rest are = (are.0, agree-front f h front rest are.1)
 
-agree-stream : (f h : ℕ → List ℕ) (ks : List ℕ) → AgreeAt f h ks → stream f ks ≡ stream h ks
+pub agree-stream : (f h : ℕ → List ℕ) (ks : List ℕ) → AgreeAt f h ks → stream f ks ≡ stream h ks
 agree-stream f h [] are = refl
 agree-stream f h (k ∷ ks) are = ap (λ xs. xs ++ stream f ks) are.0 ∙ ap (λ xs. h k ++ xs) (agree-stream f h ks are.1)
 

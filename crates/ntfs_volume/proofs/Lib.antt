@@ -9,6 +9,10 @@ mod TableListLemmas
 mod TableMapLemmas
 mod ListLemmas
 mod LawLemmas
+mod ExtentsLemmas
+mod MappedLemmas
+mod StreamLemmas
+mod ToldLemmas
 mod GatherCells
 mod PartsLemmas
 mod GatherSteps

@@ -162,17 +162,17 @@ front-read bytes block whole valid zeros within is =
     let size : length (take valid bytes) ≡ valid = length-take-le valid bytes within in
     sym (ap (λ xs. xs ++ drop valid bytes) (is ∙ ap (λ n. take n whole) size) ∙ ap (λ xs. take valid whole ++ drop valid xs) zeros ∙ ap (λ xs. take valid whole ++ xs) (drop-replicate valid (length bytes) 0))
 
+find_step : {A B : Type 0} (g : A → B) (b : Bool) (x : A) (found : Option B) (rest : Option A) → found ≡ option_map g rest
+    → (if b then Some (g x) else found) ≡ option_map g (if b then Some x else rest)
+find_step g true x found rest is = refl
+find_step g false x found rest is = is
+
+-- what is found of items that are mapped
+pub find-map : {A B : Type 0} (g : A → B) (p : B → Bool) (q : A → Bool) → ((x : A) → p (g x) ≡ q x) → (xs : List A) → find p (map g xs) ≡ option_map g (find q xs)
+find-map g p q same [] = refl
+find-map g p q same (x ∷ xs) = rw (same x) (find_step g (q x) x (find p (map g xs)) (find q xs) (find-map g p q same xs))
+
 -- an attribute in place is the one that is said
-find_step : (b : Bool) (a : Attribute (Laid (List ℕ))) (found : Option Shown) (rest : Option (Attribute (Laid (List ℕ)))) → found ≡ option_map told rest
-    → (if b then Some (told a) else found) ≡ option_map told (if b then Some a else rest)
-find_step true a found rest is = refl
-find_step false a found rest is = is
-
-pub found-told : (p : Shown → Bool) (q : Attribute (Laid (List ℕ)) → Bool) → ((a : Attribute (Laid (List ℕ))) → p (told a) ≡ q a) → (them : List (Attribute (Laid (List ℕ))))
-    → find p (map told them) ≡ option_map told (find q them)
-found-told p q same [] = refl
-found-told p q same (a ∷ them) = rw (same a) (find_step (q a) a (find p (map told them)) (find q them) (found-told p q same them))
-
 pub found-none : (o : Option (Attribute (Laid (List ℕ)))) → None ≡ option_map told o → o ≡ None
 found-none None is = refl
 found-none (Some a) is = absurd cc

@@ -20,7 +20,7 @@ use Rattle.ntfs_volume.specs.MftMap.{extension_of, extent_in, extent_of_entry, i
 use Rattle.ntfs_volume.specs.References.{has_base, target}
 use Rattle.ntfs_volume.specs.Views.{is_wanted, told}
 use Rattle.ntfs_volume.specs.declared.wanted.Wanted.TheVariants as wanted
-use Rattle.ntfs_volume.proofs.ListLemmas.{found-none, found-some, found-told}
+use Rattle.ntfs_volume.proofs.ListLemmas.{find-map, found-none, found-some}
 use Rattle.ntfs_volume.specs.Opened.{AreTableRuns}
 use Rattle.ntfs_volume.specs.StreamBytes.{clusters_in}
 use Rattle.ntfs_volume.specs.declared.fault.VolumeFault.{VolumeFault}
@@ -74,7 +74,7 @@ count-append front rest = ap length (vcns-append front rest) ∙ length-append (
 
 named_found : (entry : Listed) (holder : FileRecord) → find (is_wanted (wanted.Extent entry.lowest entry.instance)) (map told (attributes_of holder))
     ≡ option_map told (find (λ (a : Attribute _). is_named entry a.face) (attributes_of holder))
-named_found entry holder = found-told (is_wanted (wanted.Extent entry.lowest entry.instance)) (λ a. is_named entry a.face) (λ a. refl) (attributes_of holder)
+named_found entry holder = find-map told (is_wanted (wanted.Extent entry.lowest entry.instance)) (λ a. is_named entry a.face) (λ a. refl) (attributes_of holder)
 
 pub extent-none : (n : ℕ) (entry : Listed) (holder : FileRecord) → None ≡ find (is_wanted (wanted.Extent entry.lowest entry.instance)) (map told (attributes_of holder))
     → extent_in n entry holder ≡ Err (no_map 0)

@@ -12,7 +12,7 @@ use Rattle.ntfs_volume.specs.MftMap.{all_clusters, clusters_by, further, no_map}
 use Rattle.ntfs_volume.specs.Views.{is_wanted, told}
 use Rattle.ntfs_volume.specs.declared.fault.VolumeFault.{VolumeFault}
 use Rattle.ntfs_volume.specs.declared.wanted.Wanted.TheVariants as wanted
-use Rattle.ntfs_volume.proofs.ListLemmas.{found-none, found-some, found-told}
+use Rattle.ntfs_volume.proofs.ListLemmas.{find-map, found-none, found-some}
 
 find_filled : (n : ℕ) (f : ℕ → List ℕ) (a : Attribute (Laid (List ℕ))) (b : Bool) (found : Option _) (rest : Option (Attribute (Laid (List ℕ)))) → found ≡ option_map (filled_attribute n f) rest
     → (if b then Some (filled_attribute n f a) else found) ≡ option_map (filled_attribute n f) (if b then Some a else rest)
@@ -25,7 +25,7 @@ find-filled n f [] = refl
 find-filled n f (a ∷ them) = find_filled n f a (is_list a.face) (find (λ (a : Attribute _). is_list a.face) (filled_attributes n f them)) (find (λ (a : Attribute _). is_list a.face) them) (find-filled n f them)
 
 list_wanted : (first : FileRecord) → find (is_wanted wanted.List) (map told (attributes_of first)) ≡ option_map told (find (λ (a : Attribute _). is_list a.face) (attributes_of first))
-list_wanted first = found-told (is_wanted wanted.List) (λ a. is_list a.face) (λ a. refl) (attributes_of first)
+list_wanted first = find-map told (is_wanted wanted.List) (λ a. is_list a.face) (λ a. refl) (attributes_of first)
 
 -- without a list the known clusters are all
 pub all-none : (g : Geometry) (f : ℕ → List ℕ) (valid : ℕ) (first : FileRecord) (known : List ℕ) → None ≡ find (is_wanted wanted.List) (map told (attributes_of first))

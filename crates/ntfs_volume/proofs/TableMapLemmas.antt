@@ -23,7 +23,7 @@ use Rattle.ntfs_volume.specs.declared.fault.VolumeFault.{VolumeFault}
 use Rattle.ntfs_volume.specs.declared.known.Known.{Known}
 use Rattle.ntfs_volume.specs.declared.wanted.Wanted.TheVariants as wanted
 use Rattle.ntfs_volume.proofs.AnswerLemmas.{and-right, gives_by}
-use Rattle.ntfs_volume.proofs.ListLemmas.{find-meets, found-none, found-some, found-told}
+use Rattle.ntfs_volume.proofs.ListLemmas.{find-map, find-meets, found-none, found-some}
 
 -- nothing is known yet
 pub known-none : (known : Known) → known.runs ≡ [] → known_clusters known ≡ []
@@ -53,7 +53,7 @@ map_by g f first pairs size valid = do
   map_of g clusters size valid
 
 first_wanted : (first : FileRecord) → find (is_wanted wanted.First) (map told (attributes_of first)) ≡ option_map told (find (λ (a : Attribute _). begins_table a.face) (attributes_of first))
-first_wanted first = found-told (is_wanted wanted.First) (λ a. begins_table a.face) (λ a. refl) (attributes_of first)
+first_wanted first = find-map told (is_wanted wanted.First) (λ a. begins_table a.face) (λ a. refl) (attributes_of first)
 
 pub first-none : (g : Geometry) (f : ℕ → List ℕ) (first : FileRecord) → None ≡ find (is_wanted wanted.First) (map told (attributes_of first)) → map_of_record g f first ≡ Err (no_map 0)
 unfolding map_of_record
