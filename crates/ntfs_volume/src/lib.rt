@@ -26,4 +26,8 @@ pub use volume::{Volume, open_volume};
 #[cfg(test)]
 mod gather_tests;
 #[cfg(test)]
+mod made;
+#[cfg(test)]
+mod map_tests;
+#[cfg(test)]
 mod tests;

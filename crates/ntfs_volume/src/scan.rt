@@ -50,7 +50,7 @@ fn seek(cluster: u32, runs: &[Run], from: Cursor, place: u64) -> Cursor
     at
 }
 
-/// Reads bytes from a place on that lies in the run of a cursor or behind it, up to one that lies in the run of another.
+/// Reads bytes from a place on, which lies in the run of a cursor or behind it, up to one in the run of another.
 fn read_between<G: Image>(
     image: &mut G,
     geometry: &Geometry,
@@ -126,8 +126,8 @@ impl<'a> Scan<'a> {
         self.next
     }
 
-    /// Fills a buffer with the records that come next, as many as it has room for, and tells how many they are: 0 where
-    /// there is none left. What lies behind them in the buffer stays, and after a refusal it holds anything.
+    /// Fills a buffer with the records that come next, as many as it has room for, and tells how many they are: none
+    /// where the last came before. After a refusal the buffer holds anything, and the same records come next.
     pub fn fill<G: Image>(&mut self, image: &mut G, buffer: &mut [u8]) -> Result<u64, VolumeFault>
         requires held { HasClusters (G.seen image.old).size self.old.table }
         ensures gives { IfTold G.Image image.old (λ content. IfOk result (λ count.
