@@ -519,8 +519,8 @@ fn volumes_are_opened_or_refused(rt: HostRuntime) -> Result<(), Fail> {
 fn a_scan_that_fails_goes_on_where_it_stood(rt: HostRuntime) -> Result<(), Fail> {
     let alloc = rt.alloc();
     let made = three(alloc, 0)?;
-    // Four reads open the volume, and each row of clusters takes one: through this buffer, five records at a time, these
-    // are 1, 2, 2 and 1. What a failing read cut off is read again.
+    // Four reads open the volume, and each row of clusters takes one: through this buffer, five records at a time,
+    // these are 1, 2, 2 and 1. What a failing read cut off is read again.
     for (failing, faults, reads) in [(99, 0, 10), (5, 1, 11), (7, 1, 12), (8, 1, 11)] {
         let mut image = MemImage::new(alloc, volume(alloc, 0)?);
         image.inside.calls.fail(alloc, failing, Leaves::Before)?;
