@@ -2,6 +2,7 @@ mod AnswerLemmas
 mod PieceLemmas
 mod ReadLemmas
 mod TableLemmas
+mod ScanLemmas
 mod FoundLemmas
 mod MapLemmas
 mod EntriesLemmas

@@ -8,6 +8,7 @@ pub mod Listing
 pub mod MftMap
 pub mod Records
 pub mod Opened
+pub mod Scan
 pub mod Known
 pub mod Views
 pub mod ListViews

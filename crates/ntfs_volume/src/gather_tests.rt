@@ -1,90 +1,44 @@
-//! Streams gathered on a small volume: 64 clusters of 1,024 bytes, $MFT of 32 records at cluster 4.
-ghost use Rattle.std.specs.Prelude.{◌≤◌, ◌<◌, ◌^◌};
-ghost use Rattle.ntfs_boot.specs.Geometry.{IsOpened};
-ghost use Rattle.ntfs_runs.specs.Clusters.{AreSpellable, AreWithin};
+//! Streams gathered on a small volume: clusters of 1,024 bytes, $MFT from cluster 4 on.
 
-use crate::{Stream, Table, Volume, VolumeFault};
+use crate::made::{Entry, Made, Shape, Told, entry, image, patch};
+use crate::{Stream, VolumeFault, open_volume};
 use ntfs_base::{Image, Leaves, MemImage, Rule};
-use ntfs_boot::{Geometry, read_volume_geometry};
-use ntfs_runs::{Run, RunList, decode};
+use ntfs_runs::Run;
 use std::alloc::{AllocError, Global};
 use std::process::Abort;
 use std::test::Fail;
 
-const LENGTH: usize = 66_560;
+const SMALL: Shape<'static> = Shape {
+    sectors: 2,
+    clusters: 64,
+    runs: &[(4, 32)],
+};
 
-/// Writes a text over the bytes, where it lies in them.
-fn patch(bytes: &mut [u8], at: usize, text: &[u8]) {
-    if at <= bytes.len() && text.len() <= bytes.len() - at {
-        bytes[at..at + text.len()].copy_from_slice(text);
-    }
-}
-
-/// The place of a record.
-fn record_at(number: usize) -> usize
-    requires { number < 64 }
-    ensures { result < 2 ^ 17 }
-{
-    4096 + 1024 * number
-}
-
-/// A record without attributes yet, of sequence number 3, with this base reference.
-fn begin(bytes: &mut [u8], number: usize, base: u64)
-    requires { number < 64 }
-{
-    let at = record_at(number);
-    patch(bytes, at, b"FILE");
-    patch(bytes, at + 0x04, &[0x30, 0, 3, 0]);
-    patch(bytes, at + 0x10, &[3, 0, 1, 0, 56, 0, 1, 0]);
-    patch(bytes, at + 0x1C, &[0, 4, 0, 0]);
-    patch(bytes, at + 0x20, &base.to_le_bytes());
-    patch(bytes, at + 0x2C, &[number as u8, 0, 0, 0]);
-    patch(bytes, at + 0x30, &[5, 0]);
-    patch(bytes, at + 510, &[5, 0]);
-    patch(bytes, at + 1022, &[5, 0]);
-}
-
-/// The end of a record's attributes.
-fn end(bytes: &mut [u8], number: usize, place: u16)
-    requires number { number < 64 }
-    requires place { place < 1000 }
-{
-    let at = record_at(number);
-    patch(bytes, at + usize::from(place), &[0xFF; 4]);
-    patch(bytes, at + 0x18, &(place + 8).to_le_bytes());
-}
-
-/// What an attribute of 80 bytes says that isn't resident.
-#[derive(Clone, Copy)]
-struct Told<'a> {
-    kind: u8,
-    name: &'a [u8],
-    units: u8,
-    flags: u16,
-    instance: u16,
-    lowest: u64,
-    next: u64,
-    size: u64,
-    valid: u64,
-    pairs: &'a [u8],
-}
-
-/// One cluster, 50.
-const ONE: Told<'static> = Told {
+/// $MFT of 32 records.
+const TABLE: Told<'static> = Told {
     kind: 0x80,
     name: b"",
     units: 0,
     flags: 0,
     instance: 1,
     lowest: 0,
+    next: 32,
+    size: 32_768,
+    valid: 32_768,
+    pairs: &[0x11, 0x20, 0x04, 0x00],
+};
+
+/// One cluster, 50.
+const ONE: Told<'static> = Told {
     next: 1,
     size: 1000,
     valid: 900,
     pairs: &[0x11, 0x01, 0x32, 0x00],
+    ..TABLE
 };
 
 /// Behind it a hole of one cluster.
-const BEHIND: Told<'static> = Told {
+const HOLE: Told<'static> = Told {
     flags: 7,
     instance: 2,
     lowest: 1,
@@ -92,167 +46,83 @@ const BEHIND: Told<'static> = Told {
     size: 5,
     valid: 5,
     pairs: &[0x01, 0x01, 0x00],
-    ..ONE
+    ..TABLE
 };
 
-/// An attribute of 80 bytes at a place of a record; its name stands at 64, its pairs at 72.
-fn runs(bytes: &mut [u8], number: usize, place: usize, told: Told<'_>)
-    requires number { number < 64 }
-    requires place { place < 1000 }
-{
-    let at = record_at(number) + place;
-    let units = told.units;
-    patch(
-        bytes,
-        at,
-        &[told.kind, 0, 0, 0, 80, 0, 0, 0, 1, units, 64, 0],
-    );
-    patch(bytes, at + 0x0C, &told.flags.to_le_bytes());
-    patch(bytes, at + 0x0E, &told.instance.to_le_bytes());
-    patch(bytes, at + 0x10, &told.lowest.to_le_bytes());
-    patch(bytes, at + 0x18, &told.next.wrapping_sub(1).to_le_bytes());
-    patch(bytes, at + 0x20, &[72, 0]);
-    patch(bytes, at + 0x30, &told.size.to_le_bytes());
-    patch(bytes, at + 0x38, &told.valid.to_le_bytes());
-    patch(bytes, at + 64, told.name);
-    patch(bytes, at + 72, told.pairs);
-}
-
-/// An attribute of 64 bytes of this type and instance, with a value of five bytes.
-fn value(bytes: &mut [u8], number: usize, place: usize, kind: u8, instance: u8)
-    requires number { number < 64 }
-    requires place { place < 1000 }
-{
-    let at = record_at(number) + place;
-    patch(
-        bytes,
-        at,
-        &[kind, 0, 0, 0, 32, 0, 0, 0, 0, 0, 24, 0, 1, 0, instance, 0],
-    );
-    patch(bytes, at + 0x10, &[5, 0, 0, 0, 24, 0, 0, 0]);
-    patch(bytes, at + 24, b"value");
-}
-
-/// The head of a resident list of so many entries of 32 bytes, in an attribute at 56 of a record.
-fn list(bytes: &mut [u8], number: usize, entries: u8)
-    requires number { number < 64 }
-    requires entries { entries ≤ 7 }
-{
-    let at = record_at(number) + 56;
-    let size = 32 * entries;
-    patch(
-        bytes,
-        at,
-        &[0x20, 0, 0, 0, size, 0, 0, 0, 0, 0, 24, 0, 0, 0, 9, 0],
-    );
-    patch(bytes, at + 4, &(u16::from(size) + 24).to_le_bytes());
-    patch(bytes, at + 0x10, &[size, 0, 0, 0, 24, 0, 0, 0]);
-}
-
-/// An entry of 32 bytes for an attribute, at a place of the bytes.
-fn entry(bytes: &mut [u8], at: usize, told: Told<'_>, reference: u64)
-    requires { at < 2 ^ 20 }
-{
-    let units = told.units;
-    patch(bytes, at, &[told.kind, 0, 0, 0, 32, 0, units, 26]);
-    patch(bytes, at + 8, &told.lowest.to_le_bytes());
-    patch(bytes, at + 0x10, &reference.to_le_bytes());
-    patch(bytes, at + 0x18, &told.instance.to_le_bytes());
-    patch(bytes, at + 26, told.name);
-}
-
-/// The place of an entry of the resident list of a record.
-fn entry_at(number: usize, index: usize) -> usize
-    requires number { number < 64 }
-    requires index { index < 8 }
-    ensures { result < 2 ^ 18 }
-{
-    record_at(number) + 80 + 32 * index
-}
-
-/// A volume whose only record is that of $MFT.
-fn empty(alloc: Global) -> Result<Vec<u8>, AllocError> {
-    let mut bytes = vec![in alloc; 0; LENGTH]?;
-    patch(&mut bytes, 3, b"NTFS    ");
-    patch(&mut bytes, 0x0B, &[0, 2, 2]);
-    patch(&mut bytes, 0x28, &[128]);
-    patch(&mut bytes, 0x30, &[4]);
-    patch(&mut bytes, 0x38, &[40]);
-    patch(&mut bytes, 0x40, &[0xF6]);
-    patch(&mut bytes, 0x44, &[0xF4]);
-    begin(&mut bytes, 0, 0);
-    let table = Told {
-        next: 32,
-        size: 32_768,
-        valid: 32_768,
-        pairs: &[0x11, 0x20, 0x04, 0x00],
-        ..ONE
-    };
-    runs(&mut bytes, 0, 56, table);
-    end(&mut bytes, 0, 136);
-    Ok(bytes)
-}
+/// And then cluster 49.
+const LAST: Told<'static> = Told {
+    instance: 3,
+    lowest: 2,
+    next: 3,
+    pairs: &[0x11, 0x01, 0x31, 0x00],
+    ..HOLE
+};
 
 /// The reference of record 16 with its sequence number, 3.
 const BASE: u64 = 3 << 48 | 16;
 
-/// A stream of two extents: the first in the extension record 17, the second in the base record 16. The list names
+/// The places of records in the image, and of the entries of the list of record 16.
+const RECORD_16: usize = 20_480;
+
+const RECORD_17: usize = 21_504;
+
+const RECORD_18: usize = 22_528;
+
+const ENTRY_0: usize = RECORD_16 + 80;
+
+const ENTRY_1: usize = ENTRY_0 + 32;
+
+const ENTRY_2: usize = ENTRY_1 + 32;
+
+/// What begins a volume: the record of $MFT, and then record 16.
+fn begun(alloc: Global) -> Result<Made, AllocError> {
+    let mut made = Made::new(alloc, 32)?;
+    made.begin(0, 0);
+    made.runs(TABLE);
+    made.end();
+    made.begin(16, 0);
+    Ok(made)
+}
+
+/// An extension record of record 16 with this attribute alone.
+fn extension(made: &mut Made, number: u8, told: Told<'_>) {
+    made.begin(number, BASE);
+    made.runs(told);
+    made.end();
+}
+
+/// A stream of three extents: in the extension records 17 and 18, and at 176 in the base record 16. The list names
 /// them, and with an unknown sequence number the base record itself.
 fn volume(alloc: Global) -> Result<Vec<u8>, AllocError> {
-    let mut bytes = empty(alloc)?;
-    begin(&mut bytes, 16, 0);
-    list(&mut bytes, 16, 2);
-    entry(&mut bytes, entry_at(16, 0), ONE, 3 << 48 | 17);
-    entry(&mut bytes, entry_at(16, 1), BEHIND, 16);
-    runs(&mut bytes, 16, 144, BEHIND);
-    end(&mut bytes, 16, 224);
-    begin(&mut bytes, 17, BASE);
-    runs(&mut bytes, 17, 56, ONE);
-    end(&mut bytes, 17, 136);
-    Ok(bytes)
+    let entries: [Entry<'_>; 3] = [(ONE, 3 << 48 | 17), (HOLE, 3 << 48 | 18), (LAST, 16)];
+    let mut made = begun(alloc)?;
+    made.list(&entries);
+    made.runs(LAST);
+    made.end();
+    extension(&mut made, 17, ONE);
+    extension(&mut made, 18, HOLE);
+    image(alloc, SMALL, &made.table)
 }
 
-/// Gathers at a type that is known by its bound alone; $MFT has 32 records.
-fn gather_from<G: Image>(
+/// Gathers a stream of record 16 at a type that is known by its bound alone.
+fn gather_in<G: Image>(
     alloc: Global,
     image: &mut G,
-    geometry: Geometry,
-    runs: RunList,
     kind: u32,
     name: &[u8],
-) -> Option<Result<Stream, VolumeFault>>
-    requires opened { IsOpened (G.seen image.old).size geometry }
-    requires spellable { AreSpellable runs }
-    requires within { AreWithin runs }
-{
-    let table = Table::fitting(geometry, runs, 32_768, 32_768)?;
-    let mut volume = Volume::new(image, table);
-    Some(volume.gather(alloc, 16, kind, name))
+) -> Result<Stream, VolumeFault> {
+    let mut volume = open_volume(alloc, image)?;
+    volume.gather(alloc, 16, kind, name)
 }
 
-/// The stream of record 16 of this type and name, of a volume of these bytes; this device call fails.
-fn gather_failing(
-    alloc: Global,
-    bytes: Vec<u8>,
-    kind: u32,
-    name: &[u8],
-    failing: u64,
-) -> Result<Result<Stream, VolumeFault>, Fail> {
+/// The stream of record 16 of this type and name, of a volume of these bytes.
+fn gather_of(alloc: Global, bytes: Vec<u8>, kind: u32, name: &[u8]) -> Result<Stream, VolumeFault> {
     let mut image = MemImage::new(alloc, bytes);
-    image.inside.calls.fail(alloc, failing, Leaves::Before)?;
-    match read_volume_geometry(&mut image) {
-        Err(_) => Err("a geometry")?,
-        Ok(geometry) => match decode(alloc, &[0x11, 0x20, 0x04, 0x00]) {
-            Err(_) => Err("runs")?,
-            Ok(runs) => {
-                Ok(gather_from(alloc, &mut image, geometry, runs, kind, name).ok_or("a table")?)
-            }
-        },
-    }
+    gather_in(alloc, &mut image, kind, name)
 }
 
-fn gather(alloc: Global, bytes: Vec<u8>) -> Result<Result<Stream, VolumeFault>, Fail> {
-    gather_failing(alloc, bytes, 0x80, b"", 99)
+fn gather(alloc: Global, bytes: Vec<u8>) -> Result<Stream, VolumeFault> {
+    gather_of(alloc, bytes, 0x80, b"")
 }
 
 /// What a stream has that isn't resident.
@@ -265,6 +135,15 @@ struct Wanted<'a> {
     extents: u64,
     runs: &'a [(u64, Option<u64>)],
 }
+
+const THREE: Wanted<'static> = Wanted {
+    flags: 0,
+    size: 1000,
+    valid: 900,
+    first: (17, 56),
+    extents: 3,
+    runs: &[(1, Some(50)), (1, None), (1, Some(49))],
+};
 
 fn has_runs(list: &[Run], wanted: &[(u64, Option<u64>)]) -> bool {
     if list.len() != wanted.len() {
@@ -297,117 +176,421 @@ fn gives(rt: &impl Abort, found: Result<Stream, VolumeFault>, wanted: Wanted<'_>
     }
 }
 
+/// The stream is the value of one attribute, at this place of a record.
+fn gives_value(rt: &impl Abort, found: Result<Stream, VolumeFault>, first: (u64, u32)) {
+    match found {
+        Err(fault) => assert_eq!(rt; Some(fault), None),
+        Ok(stream) => {
+            assert_eq!(rt; stream.value(), Some(b"value".as_slice()));
+            assert_eq!(rt;
+                (stream.size(), stream.valid(), stream.extents()),
+                (5, 5, 1)
+            );
+            assert_eq!(rt; stream.first(), first);
+            assert!(rt; stream.runs().is_none());
+        }
+    }
+}
+
+fn refused(rt: &impl Abort, found: Result<Stream, VolumeFault>, fault: VolumeFault, at: usize) {
+    match found {
+        Err(other) => assert_eq!(rt; other, fault, "at {at}"),
+        Ok(_) => assert_eq!(rt; Some(fault), None, "at {at}"),
+    }
+}
+
 fn damaged(rule: Rule, number: u64) -> VolumeFault {
     VolumeFault::Damaged { rule, number }
 }
 
-const TWO: Wanted<'static> = Wanted {
-    flags: 0,
-    size: 1000,
-    valid: 900,
-    first: (17, 56),
-    extents: 2,
-    runs: &[(1, Some(50)), (1, None)],
-};
-
-fn refused(rt: &impl Abort, found: Result<Stream, VolumeFault>, fault: VolumeFault) {
-    match found {
-        Err(other) => assert_eq!(rt; other, fault),
-        Ok(_) => assert_eq!(rt; Some(fault), None),
+#[test]
+fn extents_of_three_records(rt: HostRuntime) -> Result<(), Fail> {
+    let alloc = rt.alloc();
+    gives(&rt, gather(alloc, volume(alloc)?), THREE);
+    // An empty name may stand anywhere in a record, and at the end of an entry; the size may be that of all clusters.
+    for (place, byte) in [(RECORD_17 + 56 + 0x0A, 200), (ENTRY_0 + 7, 32)] {
+        let mut bytes = volume(alloc)?;
+        patch(&mut bytes, place, &[byte]);
+        gives(&rt, gather(alloc, bytes), THREE);
     }
+    let mut bytes = volume(alloc)?;
+    patch(&mut bytes, RECORD_17 + 56 + 0x30, &[0, 12]);
+    gives(
+        &rt,
+        gather(alloc, bytes),
+        Wanted {
+            size: 3072,
+            ..THREE
+        },
+    );
+    // An entry of another type is not looked at, nor is the record that it names.
+    let mut bytes = volume(alloc)?;
+    entry(&mut bytes, ENTRY_2, Told { kind: 0x90, ..LAST }, 99);
+    let want = Wanted {
+        extents: 2,
+        runs: &[(1, Some(50)), (1, None)],
+        ..THREE
+    };
+    gives(&rt, gather(alloc, bytes), want);
+    Ok(())
 }
 
 #[test]
-fn extents_of_two_records(rt: HostRuntime) -> Result<(), Fail> {
+fn extents_of_one_record(rt: HostRuntime) -> Result<(), Fail> {
     let alloc = rt.alloc();
-    gives(&rt, gather(alloc, volume(alloc)?)?, TWO);
-    // An entry of another type is not looked at, nor is the record that it names.
-    let mut bytes = volume(alloc)?;
-    let other = Told { kind: 0x90, ..ONE };
-    entry(&mut bytes, entry_at(16, 1), other, 99);
-    let want = Wanted {
-        extents: 1,
-        runs: &[(1, Some(50))],
-        ..TWO
-    };
-    gives(&rt, gather(alloc, bytes)?, want);
-    // Of two attributes that are the same in all five the first is meant.
-    let mut bytes = volume(alloc)?;
+    // Of two attributes of record 17 that are the same in all five the first is meant.
     let again = Told {
         pairs: &[0x11, 0x01, 0x31, 0x00],
         ..ONE
     };
-    runs(&mut bytes, 17, 136, again);
-    end(&mut bytes, 17, 216);
-    gives(&rt, gather(alloc, bytes)?, TWO);
+    let mut made = begun(alloc)?;
+    made.list(&[(ONE, 17)]);
+    made.end();
+    made.begin(17, BASE);
+    made.runs(ONE);
+    made.runs(again);
+    made.end();
+    let one = Wanted {
+        extents: 1,
+        runs: &[(1, Some(50))],
+        ..THREE
+    };
+    gives(&rt, gather(alloc, image(alloc, SMALL, &made.table)?), one);
+    // Without a list all of one type and name are meant, and another name plays no part.
+    let named = Told {
+        name: b"v\0",
+        units: 1,
+        ..ONE
+    };
+    let mut made = begun(alloc)?;
+    made.runs(ONE);
+    made.runs(HOLE);
+    made.value(named);
+    made.end();
+    let bytes = image(alloc, SMALL, &made.table)?;
+    let two = Wanted {
+        first: (16, 56),
+        extents: 2,
+        runs: &[(1, Some(50)), (1, None)],
+        ..THREE
+    };
+    gives(&rt, gather(alloc, bytes), two);
+    let bytes = image(alloc, SMALL, &made.table)?;
+    gives_value(&rt, gather_of(alloc, bytes, 0x80, b"v\0"), (16, 264));
+    let bytes = image(alloc, SMALL, &made.table)?;
+    refused(
+        &rt,
+        gather_of(alloc, bytes, 0x80, b"w\0"),
+        VolumeFault::NoAttribute,
+        0,
+    );
+    Ok(())
+}
+
+#[test]
+fn values_and_empty_streams(rt: HostRuntime) -> Result<(), Fail> {
+    let alloc = rt.alloc();
+    let mut made = begun(alloc)?;
+    made.value(ONE);
+    made.end();
+    gives_value(
+        &rt,
+        gather(alloc, image(alloc, SMALL, &made.table)?),
+        (16, 56),
+    );
+    // A value that the list names.
+    let mut made = begun(alloc)?;
+    made.list(&[(ONE, 3 << 48 | 17)]);
+    made.end();
+    made.begin(17, BASE);
+    made.value(ONE);
+    made.end();
+    gives_value(
+        &rt,
+        gather(alloc, image(alloc, SMALL, &made.table)?),
+        (17, 56),
+    );
+    let empty = Told {
+        next: 0,
+        size: 0,
+        valid: 0,
+        pairs: &[0],
+        ..ONE
+    };
+    let mut made = begun(alloc)?;
+    made.runs(empty);
+    made.end();
+    let want = Wanted {
+        flags: 0,
+        size: 0,
+        valid: 0,
+        first: (16, 56),
+        extents: 1,
+        runs: &[],
+    };
+    gives(&rt, gather(alloc, image(alloc, SMALL, &made.table)?), want);
+    Ok(())
+}
+
+/// A byte at a place of the volume, and the refusal that it brings.
+type Damage = (usize, u8, VolumeFault);
+
+fn are_refused(rt: &impl Abort, alloc: Global, damages: &[Damage]) -> Result<(), AllocError> {
+    for (place, byte, fault) in damages {
+        let mut bytes = volume(alloc)?;
+        patch(&mut bytes, *place, &[*byte]);
+        refused(rt, gather(alloc, bytes), *fault, *place);
+    }
     Ok(())
 }
 
 #[test]
 fn damage_is_named_by_its_record(rt: HostRuntime) -> Result<(), Fail> {
-    let alloc = rt.alloc();
     let c4 = damaged(Rule::C4, 17);
     let c11 = damaged(Rule::C11, 16);
-    let places = [
-        // The extension record: not in use; torn; of another base; of another turn than the entry says.
-        (record_at(17) + 0x16, 2, c11),
-        (record_at(17) + 510, 6, c4),
-        (record_at(17) + 0x20, 18, c11),
-        (record_at(17) + 0x10, 4, c11),
-        // The attribute's type, lowest VCN and instance, and pairs that spell two clusters.
-        (record_at(17) + 56, 0x90, c11),
-        (record_at(17) + 56 + 0x10, 1, c11),
-        (record_at(17) + 56 + 0x0E, 7, c11),
-        (record_at(17) + 56 + 73, 2, damaged(Rule::C7, 17)),
-        // An LCN at the number of clusters, an initialised size above the size, and an entry of length 0.
-        (record_at(17) + 56 + 74, 64, damaged(Rule::C7, 17)),
-        (record_at(17) + 56 + 0x39, 4, damaged(Rule::C12, 16)),
-        (entry_at(16, 1) + 4, 0, c11),
+    let c12 = damaged(Rule::C12, 16);
+    let extensions: [Damage; 9] = [
+        // The extension record: not in use; torn; with another number; of another base; of another turn than the entry
+        // says.
+        (RECORD_17 + 0x16, 2, c11),
+        (RECORD_17 + 510, 6, c4),
+        (RECORD_17 + 0x2C, 18, c4),
+        (RECORD_17 + 0x20, 18, c11),
+        (RECORD_17 + 0x10, 4, c11),
+        // The attribute's type, lowest VCN and instance.
+        (RECORD_17 + 56, 0x90, c11),
+        (RECORD_17 + 56 + 0x10, 1, c11),
+        (RECORD_17 + 56 + 0x0E, 7, c11),
+        // The entry names a record that $MFT has no room for.
+        (ENTRY_0 + 0x10, 99, c11),
     ];
-    for (place, byte, fault) in places {
+    are_refused(&rt, rt.alloc(), &extensions)?;
+    let others: [Damage; 10] = [
+        // Pairs that spell two clusters, of an extension record and of the base record; an LCN past the last cluster.
+        (RECORD_17 + 56 + 73, 2, damaged(Rule::C7, 17)),
+        (RECORD_16 + 176 + 73, 2, damaged(Rule::C7, 16)),
+        (RECORD_17 + 56 + 74, 64, damaged(Rule::C7, 17)),
+        // An initialised size above the size, and a size above the clusters' bytes.
+        (RECORD_17 + 56 + 0x39, 4, c12),
+        (RECORD_17 + 56 + 0x31, 13, c12),
+        // An entry of length 0, one whose empty name stands behind it, and a list that is cut.
+        (ENTRY_1 + 4, 0, c11),
+        (ENTRY_1 + 7, 33, c11),
+        (RECORD_16 + 56 + 0x10, 95, c11),
+        // The base record is torn, or an extension record.
+        (RECORD_16 + 510, 6, damaged(Rule::C4, 16)),
+        (RECORD_16 + 0x20, 5, VolumeFault::Absent),
+    ];
+    are_refused(&rt, rt.alloc(), &others)?;
+    are_refused(
+        &rt,
+        rt.alloc(),
+        &[(RECORD_16 + 0x16, 0, VolumeFault::Absent)],
+    )?;
+    let found = gather_of(rt.alloc(), volume(rt.alloc())?, 0xA0, b"");
+    refused(&rt, found, VolumeFault::NoAttribute, 0);
+    Ok(())
+}
+
+/// Bytes at places of the volume, and the refusal that they bring together.
+type Damages<'a> = (&'a [(usize, u8)], VolumeFault);
+
+#[test]
+fn of_two_faults_one_is_named(rt: HostRuntime) -> Result<(), Fail> {
+    let alloc = rt.alloc();
+    let c11 = damaged(Rule::C11, 16);
+    let cases: [Damages<'_>; 10] = [
+        // The first entry that fails: its record is torn, and that of the next not in use, and the other way round.
+        (
+            &[(RECORD_17 + 510, 6), (RECORD_18 + 0x16, 0)],
+            damaged(Rule::C4, 17),
+        ),
+        (&[(RECORD_17 + 0x16, 0), (RECORD_18 + 510, 6)], c11),
+        // A wrong entry comes first, also where it tells another type.
+        (&[(RECORD_17 + 510, 6), (ENTRY_2 + 4, 0)], c11),
+        (
+            &[(RECORD_17 + 510, 6), (ENTRY_2, 0x90), (ENTRY_2 + 4, 0)],
+            c11,
+        ),
+        // Entries come before pairs, pairs in order, and pairs before extents that don't join or sizes that don't fit.
+        (
+            &[(RECORD_17 + 56 + 73, 2), (RECORD_18 + 510, 6)],
+            damaged(Rule::C4, 18),
+        ),
+        (
+            &[(RECORD_17 + 56 + 73, 2), (RECORD_18 + 56 + 73, 2)],
+            damaged(Rule::C7, 17),
+        ),
+        (
+            &[(RECORD_17 + 56 + 0x39, 4), (RECORD_18 + 56 + 73, 2)],
+            damaged(Rule::C7, 18),
+        ),
+        (
+            &[
+                (ENTRY_1 + 8, 5),
+                (RECORD_18 + 56 + 0x10, 5),
+                (RECORD_18 + 56 + 0x18, 5),
+            ],
+            damaged(Rule::C12, 16),
+        ),
+        // The base record comes before its list.
+        (
+            &[(RECORD_16 + 510, 6), (ENTRY_0 + 4, 0)],
+            damaged(Rule::C4, 16),
+        ),
+        (
+            &[(RECORD_16 + 510, 6), (RECORD_16 + 0x16, 0)],
+            VolumeFault::Absent,
+        ),
+    ];
+    for (damages, fault) in cases {
         let mut bytes = volume(alloc)?;
-        patch(&mut bytes, place, &[byte]);
-        refused(&rt, gather(alloc, bytes)?, fault);
+        for (place, byte) in damages {
+            patch(&mut bytes, *place, &[*byte]);
+        }
+        refused(&rt, gather(alloc, bytes), fault, damages.len());
     }
+    Ok(())
+}
+
+/// The volume of a stream of 200 extents.
+const LARGE: Shape<'static> = Shape {
+    sectors: 2,
+    clusters: 128,
+    runs: &[(4, 48)],
+};
+
+/// A list of 200 entries.
+const LIST: Told<'static> = Told {
+    kind: 0x20,
+    instance: 9,
+    next: 7,
+    size: 6400,
+    valid: 6400,
+    pairs: &[0x11, 7, 60, 0],
+    ..TABLE
+};
+
+/// The cluster of an extent of the 200, and its attribute with these pairs.
+fn cluster_of(extent: u16) -> u8 {
+    100 + (extent % 20) as u8
+}
+
+fn extent_of<'a>(extent: u16, pairs: &'a [u8]) -> Told<'a> {
+    Told {
+        instance: extent,
+        lowest: u64::from(extent),
+        next: u64::from(extent) + 1,
+        size: 204_800,
+        valid: 204_800,
+        pairs,
+        ..ONE
+    }
+}
+
+/// The records from 17 on with nine of 200 extents each.
+fn extensions_of_many(made: &mut Made) {
+    let mut extent = 0;
+    for number in 17..40u8 {
+        made.begin(number, BASE);
+        for _ in 0..9 {
+            if extent < 200 {
+                made.runs(extent_of(extent, &[0x11, 1, cluster_of(extent), 0]));
+                extent += 1;
+            }
+        }
+        made.end();
+    }
+}
+
+/// A stream of 200 extents in 23 records. So many lists name them, all in the same clusters.
+fn many(alloc: Global, lists: u8) -> Result<Vec<u8>, AllocError> {
+    let table = Told {
+        next: 48,
+        size: 49_152,
+        valid: 49_152,
+        pairs: &[0x11, 48, 4, 0],
+        ..TABLE
+    };
+    let mut made = Made::new(alloc, 48)?;
+    made.begin(0, 0);
+    made.runs(table);
+    made.end();
+    made.begin(16, 0);
+    for _ in 0..lists {
+        made.runs(LIST);
+    }
+    made.end();
+    extensions_of_many(&mut made);
+    let mut bytes = image(alloc, LARGE, &made.table)?;
+    for extent in 0..200u16 {
+        let holder = 17 + u64::from(extent) / 9;
+        let place = 61_440 + 32 * usize::from(extent);
+        entry(&mut bytes, place, extent_of(extent, &[]), 3 << 48 | holder);
+    }
+    Ok(bytes)
+}
+
+#[test]
+fn a_stream_of_200_extents(rt: HostRuntime) -> Result<(), Fail> {
+    let alloc = rt.alloc();
+    let mut runs = Vec::new(alloc);
+    for extent in 0..200u16 {
+        runs.push((1, Some(u64::from(cluster_of(extent)))))?;
+    }
+    let want = Wanted {
+        flags: 0,
+        size: 204_800,
+        valid: 204_800,
+        first: (17, 56),
+        extents: 200,
+        runs: &runs,
+    };
+    // Each record is read once: the boot sector, the records 0 and 16, the list, and 23 records.
+    let mut image = MemImage::new(alloc, many(alloc, 1)?);
+    gives(&rt, gather_in(alloc, &mut image, 0x80, b""), want);
+    assert_eq!(rt; image.inside.calls.made, 27);
+    let c11 = damaged(Rule::C11, 16);
+    let damages: [(usize, &[u8]); 7] = [
+        // The last entry isn't initialised; sizes that don't fit.
+        (RECORD_16 + 56 + 0x38, &[0xE0, 0x18]),
+        (RECORD_16 + 56 + 0x38, &[1, 0x19]),
+        (RECORD_16 + 56 + 0x30, &[1, 0x1C]),
+        // Wrong pairs; a cluster at the number of clusters; another number of VCNs; and VCNs from 1 on.
+        (RECORD_16 + 56 + 72, &[0x91]),
+        (RECORD_16 + 56 + 74, &[122]),
+        (RECORD_16 + 56 + 0x18, &[7]),
+        (RECORD_16 + 56 + 0x10, &[1]),
+    ];
+    for (place, text) in damages {
+        let mut bytes = many(alloc, 1)?;
+        patch(&mut bytes, place, text);
+        refused(&rt, gather(alloc, bytes), c11, place);
+    }
+    refused(&rt, gather(alloc, many(alloc, 2)?), c11, 0);
     Ok(())
 }
 
 #[test]
 fn device_calls_fail_alone(rt: HostRuntime) -> Result<(), Fail> {
     let alloc = rt.alloc();
-    // The geometry is read first, then the base record, and then the extension record.
-    for failing in [2, 3] {
-        let found = gather_failing(alloc, volume(alloc)?, 0x80, b"", failing)?;
-        refused(&rt, found, VolumeFault::ReadFault);
-    }
-    gives(
-        &rt,
-        gather_failing(alloc, volume(alloc)?, 0x80, b"", 4)?,
-        TWO,
-    );
-    Ok(())
-}
-
-#[test]
-fn a_value_and_no_stream(rt: HostRuntime) -> Result<(), Fail> {
-    let alloc = rt.alloc();
-    let mut bytes = empty(alloc)?;
-    begin(&mut bytes, 16, 0);
-    value(&mut bytes, 16, 56, 0x80, 1);
-    end(&mut bytes, 16, 88);
-    match gather(alloc, bytes)? {
-        Err(fault) => assert_eq!(rt; Some(fault), None),
-        Ok(stream) => {
-            assert_eq!(rt; stream.value(), Some(b"value".as_slice()));
-            assert_eq!(rt; stream.size(), 5);
-            assert_eq!(rt; stream.first(), (16, 56));
-            assert!(rt; stream.runs().is_none());
+    for (lists, calls) in [(0, 5_u64), (1, 27)] {
+        for failing in 1..calls.saturating_add(2) {
+            let bytes = if lists == 0 {
+                volume(alloc)?
+            } else {
+                many(alloc, lists)?
+            };
+            let mut image = MemImage::new(alloc, bytes);
+            image.inside.calls.fail(alloc, failing, Leaves::Before)?;
+            let fault = gather_in(alloc, &mut image, 0x80, b"").err();
+            let want = if failing > calls {
+                None
+            } else {
+                Some(VolumeFault::ReadFault)
+            };
+            assert_eq!(rt; fault, want, "call {failing} of {calls}");
         }
     }
-    let found = gather_failing(alloc, volume(alloc)?, 0xA0, b"", 99)?;
-    refused(&rt, found, VolumeFault::NoAttribute);
-    let mut bytes = volume(alloc)?;
-    patch(&mut bytes, record_at(16) + 0x20, &[5]);
-    refused(&rt, gather(alloc, bytes)?, VolumeFault::Absent);
     Ok(())
 }

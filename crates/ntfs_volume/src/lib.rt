@@ -9,6 +9,7 @@ mod list;
 mod mft_map;
 mod parts;
 mod pieces;
+mod scan;
 mod slot;
 mod stream;
 mod table;
@@ -17,11 +18,16 @@ mod wanted;
 
 pub use fault::VolumeFault;
 pub use mft_map::read_table;
+pub use scan::Scan;
 pub use stream::Stream;
 pub use table::Table;
 pub use volume::{Volume, open_volume};
 
 #[cfg(test)]
 mod gather_tests;
+#[cfg(test)]
+mod made;
+#[cfg(test)]
+mod map_tests;
 #[cfg(test)]
 mod tests;

@@ -1,6 +1,6 @@
 //! The bytes of clusters in a row, read run by run.
 
-ghost use Rattle.std.specs.Prelude.{◌≡◌, ◌≤◌, ◌<◌, ◌+◌, ◌-◌, ◌*◌, ◌^◌, Ok, true, min, length, replicate, take, drop, Some, None, if◌then◌else◌};
+ghost use Rattle.std.specs.Prelude.{◌≡◌, ◌≤◌, ◌<◌, ◌+◌, ◌-◌, ◌*◌, ◌^◌, Ok, true, min, length, replicate, take, drop, Some, None, IfErr, if◌then◌else◌};
 ghost use Rattle.ntfs_base.specs.Bytes.{cluster_at, raw_of, stream};
 ghost use Rattle.ntfs_base.specs.Frames.{Gives, IfTold, OnlyReads};
 ghost use Rattle.ntfs_boot.specs.Geometry.{IsOpened};
@@ -35,6 +35,7 @@ fn read_run<G: Image>(
     ensures gives { IfTold G.Image image.old (λ content. Gives volume_origin (λ done. into.new)
         (Ok (take (length into.old) (drop from (cells_bytes geometry.now.cluster
         (map_cells (cluster_at content geometry.now.cluster) (row run.now.length run.now.lcn)))))) result) }
+    ensures refused { IfErr result (λ fault. fault ≡ VolumeFault.ReadFault) }
     ensures reads { OnlyReads G.Image volume_origin image.old image.new result }
 {
     if into.is_empty() {
@@ -76,6 +77,7 @@ pub(crate) fn read_from<G: Image>(
     ensures gives { IfTold G.Image image.old (λ content. Gives volume_origin (λ done. block.new)
         (Ok (take (length block.old) (drop from (cells_bytes geometry.now.cluster
         (map_cells (cluster_at content geometry.now.cluster) (vcns runs.now)))))) result) }
+    ensures refused { IfErr result (λ fault. fault ≡ VolumeFault.ReadFault) }
     ensures reads { OnlyReads G.Image volume_origin image.old image.new result }
 {
     let mut skip = from;

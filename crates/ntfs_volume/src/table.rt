@@ -1,6 +1,6 @@
 //! What is kept of a volume: its geometry and $MFT's map.
 
-ghost use Rattle.std.specs.Prelude.{◌≡◌, ◌≤◌, ◌/◌, length, slice_get, true, MatchOption, false};
+ghost use Rattle.std.specs.Prelude.{◌≡◌, ◌≤◌, ◌<◌, ◌/◌, ◌^◌, length, slice_get, true, MatchOption, false, ℕ, List, None};
 ghost use Rattle.std.specs.Option.{ok_or};
 ghost use Rattle.ntfs_base.specs.Bytes.{cluster_at};
 ghost use Rattle.ntfs_base.specs.Frames.{Gives, IfTold, OnlyReads};
@@ -10,10 +10,12 @@ ghost use Rattle.ntfs_volume.specs.MftMap.{is_record_count, is_table};
 ghost use Rattle.ntfs_volume.specs.StreamBytes.{have_room};
 ghost use Rattle.ntfs_volume.specs.Fault.{volume_origin};
 ghost use Rattle.ntfs_volume.specs.Opened.{HasClusters, IsTable, fits_table, opened_by};
-ghost use Rattle.ntfs_volume.specs.Records.{read_of, record_count};
+ghost use Rattle.ntfs_volume.specs.Records.{raw_record, read_of, record_count};
+ghost use Rattle.ntfs_volume.specs.Scan.{initialised_count, scan_at};
 
 use crate::fault::VolumeFault;
 use crate::pieces::read_raw;
+use crate::scan::Scan;
 use crate::slot::tells_own;
 use ntfs_base::{Image, Rule};
 use ntfs_boot::Geometry;
@@ -82,6 +84,22 @@ impl Table {
         ensures { result ≡ record_count self.now.geometry self.now.map }
     {
         self.size / u64::from(self.geometry.record_size)
+    }
+
+    /// How many records lie wholly in the initialised part of $MFT.
+    pub fn initialised_count(&self) -> u64
+        ensures count { result ≡ initialised_count self.now.geometry self.now.map }
+        ensures most { result < 2 ^ 32 }
+        ensures past { (f : ℕ → List ℕ) (r : ℕ) → result ≤ r → raw_record self.now.geometry self.now.map f r ≡ None }
+    {
+        self.valid / u64::from(self.geometry.record_size)
+    }
+
+    /// The records that lie wholly in the initialised part of $MFT, from the first on, as they stand on disk.
+    pub fn scan(&self) -> Scan<'_>
+        ensures { result ≡ scan_at self.now 0 }
+    {
+        Scan::new(self, self.runs.runs())
     }
 
     /// The cluster of a VCN of $MFT, and none past its end.

@@ -3,20 +3,14 @@ ghost use Rattle.std.specs.Prelude.{◌≡◌};
 ghost use Rattle.ntfs_boot.specs.Geometry.{IsOpened};
 ghost use Rattle.ntfs_runs.specs.Clusters.{AreSpellable, AreWithin};
 
+use crate::made::patch;
 use crate::{Table, Volume, VolumeFault};
 use ntfs_base::{Image, Leaves, MemImage, Rule};
-use ntfs_boot::{Geometry, read_volume_geometry};
+use ntfs_boot::{Geometry, read_geometry, read_volume_geometry};
 use ntfs_runs::{RunList, decode};
 use std::alloc::{AllocError, Global};
 use std::process::Abort;
 use std::test::Fail;
-
-/// Writes a text over the bytes, where it lies in them.
-fn patch(bytes: &mut [u8], at: usize, text: &[u8]) {
-    if at <= bytes.len() && text.len() <= bytes.len() - at {
-        bytes[at..at + text.len()].copy_from_slice(text);
-    }
-}
 
 /// The first half of a record of this number, whose second half may lie elsewhere.
 fn record(bytes: &mut [u8], first: usize, second: usize, number: u8) {
@@ -121,5 +115,36 @@ fn a_record_in_two_runs_is_unfixed(rt: HostRuntime) -> Result<(), Fail> {
         (block[510], block[511], block[1022], block[1023]),
         (1, 0, 2, 0)
     );
+    Ok(())
+}
+
+/// Whether $MFT of this size, in all 2^26 clusters of 65,536 bytes of a volume, makes a table.
+fn fits(alloc: Global, size: u64, valid: u64) -> Result<bool, Fail> {
+    let mut sector = [0; 512];
+    patch(&mut sector, 3, b"NTFS    \0\x02\x80");
+    patch(&mut sector, 0x2C, &[2]);
+    patch(&mut sector, 0x40, &[0xF6]);
+    patch(&mut sector, 0x44, &[0xF4]);
+    match read_geometry(&sector) {
+        Err(_) => Err("a geometry")?,
+        Ok(geometry) => match decode(alloc, &[0x14, 0, 0, 0, 4, 0, 0]) {
+            Err(_) => Err("runs")?,
+            Ok(runs) => Ok(Table::fitting(geometry, runs, size, valid).is_some()),
+        },
+    }
+}
+
+#[test]
+fn a_table_has_12_records_and_fewer_than_2_to_the_32(rt: HostRuntime) -> Result<(), Fail> {
+    let cases = [
+        (12_287, 0, false),
+        (12_288, 12_288, true),
+        (12_288, 12_289, false),
+        ((1 << 42) - 1, 0, true),
+        (1 << 42, 0, false),
+    ];
+    for (size, valid, want) in cases {
+        assert_eq!(rt; fits(rt.alloc(), size, valid)?, want, "{size} {valid}");
+    }
     Ok(())
 }
