@@ -1,0 +1,4 @@
+pub mod AnswerLemmas
+pub mod BoolLemmas
+pub mod StreamBytesLemmas
+pub mod PutLemmas
