@@ -3,6 +3,7 @@
 
 mod fault;
 mod read;
+mod row;
 mod rows;
 
 pub use fault::StreamFault;

@@ -9,7 +9,8 @@ ghost use Rattle.ntfs_volume.specs.Opened.{HasClusters};
 ghost use Rattle.ntfs_volume.specs.Streams.{IsReadable};
 
 use crate::fault::StreamFault;
-use crate::rows::{Remaining, put_runs};
+use crate::row::Remaining;
+use crate::rows::put_runs;
 use ntfs_base::{Image, Sink};
 use ntfs_boot::Geometry;
 use ntfs_volume::{Stream, Volume};
@@ -55,8 +56,7 @@ pub fn put_stream<G: Image, K: Sink>(
                     size: stream.size(),
                     valid: stream.valid(),
                 };
-                let cluster = &mut buffer[..geometry.cluster as usize];
-                put_runs(image, geometry, list.runs(), &mut rest, cluster, sink)
+                put_runs(image, geometry, list.runs(), &mut rest, buffer, sink)
             }
         },
     }
