@@ -8,3 +8,6 @@ mod rows;
 
 pub use fault::StreamFault;
 pub use read::{put_stream, read_stream};
+
+#[cfg(test)]
+mod tests;
