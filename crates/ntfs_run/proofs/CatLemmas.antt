@@ -1,82 +1,130 @@
 -- What ntfscat puts: nothing where the image isn't there, and where the work was done the stream of the record.
-use Rattle.std.proofs.Common.{◌≡◌, List, ℕ, refl, sym, ap, ◌∙◌, Result, Ok, Err, Option, Some, None, ok_or}
-use Rattle.ntfs_base.specs.Frames.{must, refused_as, ◌>>=◌}
+use Rattle.std.proofs.Common.{◌≡◌, [], List, ℕ, refl, sym, ap, ◌∙◌, Result, Ok, Err, Option, Some, None, ok_or}
+use Rattle.ntfs_base.specs.Bytes.{cluster_at}
+use Rattle.ntfs_base.specs.Frames.{IsSettled, must, refused_as, ◌>>=◌}
 use Rattle.ntfs_base.specs.Shelf.{Files, file_of}
 use Rattle.ntfs_base.specs.Sink.{SinkState, after_put}
 use Rattle.ntfs_base.specs.declared.refusal.Named.TheVariants as named
-use Rattle.ntfs_base.specs.Bytes.{cluster_at}
-use Rattle.ntfs_volume.specs.Opened.{opened_of}
-use Rattle.ntfs_volume.specs.Records.{read_of}
-use Rattle.ntfs_show.specs.Cat.{cat_outcome, opened_outcome, record_block, volume_refusal, stream_at}
-use Rattle.ntfs_show.specs.StreamBytes.{is_plain}
-use Rattle.ntfs_show.specs.declared.cat_fault.CatFault.{CatFault}
-use Rattle.ntfs_show.specs.declared.cat_fault.CatFault.TheVariants as fault
 use Rattle.ntfs_base.specs.declared.refusal.UsageKind.{UsageKind}
-use Rattle.ntfs_run.specs.Cat.{IsStreamOf, PutsStream, cat_bytes, cat_status}
+use Rattle.ntfs_show.specs.Cat.{cat_outcome, gathered_stream}
+use Rattle.ntfs_show.specs.Fault.{gather_refusal, stream_refusal}
+use Rattle.ntfs_show.specs.declared.fault.ShowFault.{ShowFault}
+use Rattle.ntfs_show.specs.declared.fault.ShowFault.TheVariants as show
+use Rattle.ntfs_stream.specs.StreamBytes.{is_plain, stream_outcome}
+use Rattle.ntfs_stream.specs.declared.fault.StreamFault.TheVariants as stream
+use Rattle.ntfs_volume.specs.Fault.{volume_origin}
+use Rattle.ntfs_volume.specs.Opened.{Opened, opened_of}
+use Rattle.ntfs_volume.specs.Streams.{gather_of}
+use Rattle.ntfs_volume.specs.declared.fault.VolumeFault.{VolumeFault}
+use Rattle.ntfs_volume.specs.declared.fault.VolumeFault.TheVariants as volume
+use Rattle.ntfs_run.specs.Cat.{IsStreamOf, PutsStream, cat_bytes, record_bytes}
 use Rattle.ntfs_run.specs.Command.{Command, cat}
-use Rattle.ntfs_run.specs.Outcome.{Does, shows}
+use Rattle.ntfs_run.specs.Outcome.{Does, show_status, shows, status_origin, volume_status}
 use Rattle.ntfs_run.specs.Reply.{PutsIfCat, outcome_for}
 use Rattle.ntfs_run.specs.declared.status.Status.{Status}
 use Rattle.ntfs_run.specs.declared.status.Status.TheVariants as status
+use Rattle.ntfs_base.proofs.FramesLemmas.{gives_as}
 use Rattle.ntfs_run.proofs.ToolLemmas.{bind_ok, given_some, must_ok, refused_ok}
 
 -- ---- the stream of a record
 
-the_same : (r : Result (List ℕ) CatFault) (a b : List ℕ) → r ≡ Ok a → r ≡ Ok b → b ≡ a
+the_same : {E : Type 0} (r : Result (List ℕ) E) (a b : List ℕ) → r ≡ Ok a → r ≡ Ok b → b ≡ a
 the_same r a b one other = cc
 
 -- what the outcome shows is the bytes of the stream
-stream_is_told : (image : List ℕ) (number : ℕ) (bytes : List ℕ) → cat_outcome image number ≡ Ok bytes → IsStreamOf image number bytes
-unfolding cat_outcome opened_outcome
+stream_is_told : (image : List ℕ) (number : ℕ) (bytes : List ℕ) → record_bytes image number ≡ Ok bytes → IsStreamOf image number bytes
+unfolding record_bytes cat_outcome stream_outcome
 stream_is_told image number bytes is =
-    let opened = bind_ok (refused_as (volume_refusal number) (opened_of image)) _ bytes is in
+    let opened = bind_ok (refused_as volume_status (opened_of image)) _ bytes is in
     let volume = opened.0 in
-    let held = bind_ok (record_block volume image number) _ bytes opened.2 in
-    let gathered = bind_ok (stream_at volume.geometry number held.0) _ bytes held.2 in
-    let plain = bind_ok (must (is_plain gathered.0.flags) (fault.NotPlain gathered.0.flags)) _ bytes gathered.2 in
+    let shown = refused_ok show_status (cat_outcome volume image number 0x80 []) bytes opened.2 in
+    let gathered = bind_ok (gathered_stream volume image number 0x80 []) _ bytes shown in
+    let found = gathered.0 in
+    let told = refused_ok stream_refusal (stream_outcome volume.geometry image found.stream) bytes gathered.2 in
+    let plain = bind_ok (must (is_plain found.stream.flags) (stream.NotPlain found.stream.flags)) _ bytes told in
     record {
       volume = volume;
-      block = held.0;
-      found = gathered.0;
-      opened = refused_ok (volume_refusal number) (opened_of image) volume opened.1;
-      held = refused_ok (volume_refusal number) (read_of volume.geometry volume.map (cluster_at image volume.geometry.cluster) number) held.0 held.1;
-      gathered = gathered.1;
-      plain = must_ok (is_plain gathered.0.flags) (fault.NotPlain gathered.0.flags) plain.0 plain.1;
+      found = found;
+      opened = refused_ok volume_status (opened_of image) volume opened.1;
+      gathered = refused_ok (gather_refusal number) (gather_of volume.geometry volume.map (cluster_at image volume.geometry.cluster) number 0x80 []) found gathered.1;
+      plain = must_ok (is_plain found.stream.flags) (stream.NotPlain found.stream.flags) plain.0 plain.1;
       whole = the_same _ _ bytes refl plain.2;
     }
+
+-- ---- the opening of the volume
+
+pub volume-origin : (fault : VolumeFault) → status_origin (volume_status fault) ≡ volume_origin fault
+volume-origin volume.NotNtfs = refl
+volume-origin (volume.BadGeometry field value) = refl
+volume-origin (volume.ImageShort len need) = refl
+volume-origin (volume.Damaged rule number) = refl
+volume-origin volume.ReadFault = refl
+volume-origin volume.WriteFault = refl
+volume-origin volume.NoMemory = refl
+volume-origin volume.Absent = refl
+volume-origin volume.NoAttribute = refl
+
+pub record_refused : (image : List ℕ) (number : ℕ) (fault : VolumeFault) → (IsSettled (volume_origin fault) → opened_of image ≡ Err fault)
+    → IsSettled (status_origin (volume_status fault)) → record_bytes image number ≡ Err (volume_status fault)
+unfolding record_bytes
+record_refused image number fault is settled =
+    ap (λ r. r >>= (λ volume. refused_as show_status (cat_outcome volume image number 0x80 [])))
+    (gives_as volume_origin status_origin volume_status volume-origin (opened_of image) fault is settled)
+
+pub record_opened : (image : List ℕ) (number : ℕ) (v : Opened) → opened_of image ≡ Ok v
+    → record_bytes image number ≡ refused_as show_status (cat_outcome v image number 0x80 [])
+unfolding record_bytes
+record_opened image number v is = rw is refl
 
 -- ---- the image of a name
 
 pub cat_held : (name : List ℕ) (number : ℕ) (files : Files) (image : List ℕ) → ok_or (file_of files name) (status.Absent named.Image) ≡ Ok image
-    → cat_bytes name number files ≡ refused_as cat_status (cat_outcome image number)
+    → cat_bytes name number files ≡ record_bytes image number
 unfolding cat_bytes
-cat_held name number files image is = ap (λ r. r >>= (λ image. refused_as cat_status (cat_outcome image number))) is
+cat_held name number files image is = ap (λ r. r >>= (λ image. record_bytes image number)) is
 
 pub cat_absent : (name : List ℕ) (number : ℕ) (files : Files) (fault : Status) → ok_or (file_of files name) (status.Absent named.Image) ≡ Err fault
     → cat_bytes name number files ≡ Err fault
 unfolding cat_bytes
-cat_absent name number files fault is = ap (λ r. r >>= (λ image. refused_as cat_status (cat_outcome image number))) is
+cat_absent name number files fault is = ap (λ r. r >>= (λ image. record_bytes image number)) is
 
 -- ---- where the work was done
 
-done_fault : (fault : CatFault) → cat_status fault ≡ status.Done → ⊥
-done_fault fault.NotNtfs is = cc
-done_fault (fault.BadGeometry field value) is = cc
-done_fault (fault.ImageShort len need) is = cc
-done_fault (fault.NotFound what) is = cc
-done_fault (fault.NotPlain flags) is = cc
-done_fault (fault.Damaged rule number) is = cc
-done_fault fault.ReadFault is = cc
-done_fault fault.WriteFault is = cc
-done_fault fault.NoMemory is = cc
+done_show : (fault : ShowFault) → show_status fault ≡ status.Done → ⊥
+done_show (show.NotFound what) is = cc
+done_show (show.NotPlain flags) is = cc
+done_show (show.Damaged rule number) is = cc
+done_show show.ReadFault is = cc
+done_show show.WriteFault is = cc
+done_show show.NoMemory is = cc
 
-done_outcome : (outcome : Result (List ℕ) CatFault) → refused_as cat_status outcome ≡ Err status.Done → ⊥
-done_outcome (Ok bytes) is = cc
-done_outcome (Err fault) is = done_fault fault cc
+done_volume : (fault : VolumeFault) → volume_status fault ≡ status.Done → ⊥
+done_volume volume.NotNtfs is = cc
+done_volume (volume.BadGeometry field value) is = cc
+done_volume (volume.ImageShort len need) is = cc
+done_volume (volume.Damaged rule number) is = cc
+done_volume volume.ReadFault is = cc
+done_volume volume.WriteFault is = cc
+done_volume volume.NoMemory is = cc
+done_volume volume.Absent is = cc
+done_volume volume.NoAttribute is = cc
+
+done_shown : (outcome : Result (List ℕ) ShowFault) → refused_as show_status outcome ≡ Err status.Done → ⊥
+done_shown (Ok bytes) is = cc
+done_shown (Err fault) is = done_show fault cc
+
+done_opened : (opened : Result Opened VolumeFault) (f : Opened → Result (List ℕ) ShowFault)
+    → (refused_as volume_status opened >>= (λ v. refused_as show_status (f v))) ≡ Err status.Done → ⊥
+done_opened (Ok v) f is = done_shown (f v) is
+done_opened (Err fault) f is = done_volume fault cc
+
+done_record : (image : List ℕ) (number : ℕ) → record_bytes image number ≡ Err status.Done → ⊥
+unfolding record_bytes
+done_record image number is = done_opened (opened_of image) (λ v. cat_outcome v image number 0x80 []) is
 
 done_bytes : (o : Option (List ℕ)) (number : ℕ)
-    → (ok_or o (status.Absent named.Image) >>= (λ image. refused_as cat_status (cat_outcome image number))) ≡ Err status.Done → ⊥
-done_bytes (Some image) number is = done_outcome (cat_outcome image number) is
+    → (ok_or o (status.Absent named.Image) >>= (λ image. record_bytes image number)) ≡ Err status.Done → ⊥
+done_bytes (Some image) number is = done_record image number is
 done_bytes None number is = cc
 
 no_refusal : (name : List ℕ) (number : ℕ) (files : Files) → cat_bytes name number files ≡ Err status.Done → ⊥
@@ -88,12 +136,12 @@ stream_of : (name : List ℕ) (number : ℕ) (files : Files) (bytes : List ℕ) 
     → after ≡ after_put bytes before → PutsStream name number files before after
 unfolding cat_bytes
 stream_of name number files bytes before after is put =
-    let held = bind_ok (ok_or (file_of files name) (status.Absent named.Image)) (λ image. refused_as cat_status (cat_outcome image number)) bytes is in
+    let held = bind_ok (ok_or (file_of files name) (status.Absent named.Image)) (λ image. record_bytes image number) bytes is in
     record {
       image = held.0;
       bytes = bytes;
       held = given_some (file_of files name) (status.Absent named.Image) held.0 held.1;
-      stream = stream_is_told held.0 number bytes (refused_ok cat_status (cat_outcome held.0 number) bytes held.2);
+      stream = stream_is_told held.0 number bytes held.2;
       put = put;
     }
 

@@ -1,38 +1,30 @@
 -- `ntfscat -i NUM`: the unnamed data stream of a record.
-use Rattle.std.specs.Prelude.{◌≡◌, ℕ, true, List, Some, Result, Ok}
+use Rattle.std.specs.Prelude.{◌≡◌, ℕ, true, List, [], Some, Result, Ok}
 use Rattle.std.specs.Option.{ok_or}
+use Rattle.ntfs_base.specs.Bytes.{cluster_at}
 use Rattle.ntfs_base.specs.Frames.{refused_as, ◌>>=◌}
 use Rattle.ntfs_base.specs.Shelf.{Files, file_of}
 use Rattle.ntfs_base.specs.Sink.{SinkState, after_put}
 use Rattle.ntfs_base.specs.declared.refusal.Named.TheVariants as named
-use Rattle.ntfs_base.specs.Bytes.{cluster_at}
+use Rattle.ntfs_show.specs.Cat.{cat_outcome}
+use Rattle.ntfs_stream.specs.StreamBytes.{bytes_of_stream, filled_stream, is_plain}
 use Rattle.ntfs_volume.specs.Opened.{Opened, opened_of}
-use Rattle.ntfs_volume.specs.Records.{read_of}
-use Rattle.ntfs_show.specs.Cat.{cat_outcome, filled_stream, stream_at}
-use Rattle.ntfs_show.specs.Gather.{Stream}
-use Rattle.ntfs_show.specs.StreamBytes.{is_plain, bytes_of_stream}
-use Rattle.ntfs_show.specs.declared.cat_fault.CatFault.{CatFault}
-use Rattle.ntfs_show.specs.declared.cat_fault.CatFault.TheVariants as cat
+use Rattle.ntfs_volume.specs.Streams.{Gathered, gather_of}
+use Rattle.ntfs_run.specs.Outcome.{show_status, volume_status}
 use Rattle.ntfs_run.specs.declared.status.Status.{Status}
 use Rattle.ntfs_run.specs.declared.status.Status.TheVariants as status
 
--- a refusal of the stream as a status
-abbrev pub cat_status : CatFault → Status
-cat_status cat.NotNtfs = status.NotNtfs
-cat_status (cat.BadGeometry field value) = status.BadGeometry field value
-cat_status (cat.ImageShort len need) = status.ImageShort len need
-cat_status (cat.NotFound what) = status.NotFound what
-cat_status (cat.NotPlain flags) = status.NotPlain flags
-cat_status (cat.Damaged rule number) = status.Damaged rule number
-cat_status cat.ReadFault = status.ReadFault
-cat_status cat.WriteFault = status.WriteFault
-cat_status cat.NoMemory = status.NoMemory
+-- the bytes of the unnamed data stream of a record of an image
+unfoldable pub record_bytes : List ℕ → ℕ → Result (List ℕ) Status
+record_bytes image number = do
+  volume ← refused_as volume_status (opened_of image)
+  refused_as show_status (cat_outcome volume image number 0x80 [])
 
 -- the bytes for the image of a name and the number of a record
 unfoldable pub cat_bytes : List ℕ → ℕ → Files → Result (List ℕ) Status
 cat_bytes name number files = do
   image ← ok_or (file_of files name) (status.Absent named.Image)
-  refused_as cat_status (cat_outcome image number)
+  record_bytes image number
 
 -- the refusals of the tool, once its words are taken
 abbrev pub CatRefuses : Status → Type 0
@@ -48,18 +40,17 @@ CatRefuses status.WriteFault = Unit {0}
 CatRefuses status.NoMemory = Unit {0}
 CatRefuses other = ⊥
 
--- the bytes of the unnamed data stream of a record of an image: the volume opens, $MFT's map has the record's bytes,
--- these, unfixed, tell a plain stream, and its bytes are those of its clusters, with zeros in holes and from the
--- initialised size on (the Linux-NTFS documentation, "Attributes" and "$DATA")
+-- the bytes of the unnamed data stream of a record of an image: the volume opens, the stream is gathered from whichever
+-- records hold its extents, it is plain, and its bytes are those of its clusters, with zeros in holes and from the
+-- initialised size on (the Linux-NTFS documentation, "$ATTRIBUTE_LIST" and "Attribute Header")
 pub record IsStreamOf (image : List ℕ) (number : ℕ) (bytes : List ℕ) : Type 0 where
   pub volume : Opened
-  pub block : List ℕ
-  pub found : Stream ℕ
+  pub found : Gathered ℕ
   pub opened : opened_of image ≡ Ok volume
-  pub held : read_of volume.geometry volume.map (cluster_at image volume.geometry.cluster) number ≡ Ok block
-  pub gathered : stream_at volume.geometry number block ≡ Ok found
-  pub plain : is_plain found.flags ≡ true
-  pub whole : bytes ≡ bytes_of_stream volume.geometry.cluster (filled_stream volume.geometry image found)
+  pub gathered : gather_of volume.geometry volume.map (cluster_at image volume.geometry.cluster) number 0x80 []
+      ≡ Ok found
+  pub plain : is_plain found.stream.flags ≡ true
+  pub whole : bytes ≡ bytes_of_stream volume.geometry.cluster (filled_stream volume.geometry image found.stream)
 
 -- the bytes of the stream of a record of the image of a name were put
 pub record PutsStream (name : List ℕ) (number : ℕ) (files : Files) (old new : SinkState) : Type 0 where

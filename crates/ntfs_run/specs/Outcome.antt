@@ -10,6 +10,7 @@ use Rattle.ntfs_base.specs.declared.fault.PutFault.{PutFault}
 use Rattle.ntfs_base.specs.declared.fault.PutFault.TheVariants as put
 use Rattle.ntfs_base.specs.declared.fault.ShelfFault.{ShelfFault}
 use Rattle.ntfs_base.specs.declared.fault.ShelfFault.TheVariants as shelf_fault
+use Rattle.ntfs_base.specs.declared.refusal.Missing.TheVariants as missing
 use Rattle.ntfs_base.specs.declared.refusal.Named.{Named}
 use Rattle.ntfs_base.specs.declared.refusal.Named.TheVariants as named
 use Rattle.ntfs_base.specs.declared.shelf.Shelf as shelf
@@ -18,6 +19,8 @@ use Rattle.ntfs_boot.specs.declared.volume.ImageFault.{ImageFault}
 use Rattle.ntfs_boot.specs.declared.volume.ImageFault.TheVariants as image
 use Rattle.ntfs_show.specs.declared.fault.ShowFault.{ShowFault}
 use Rattle.ntfs_show.specs.declared.fault.ShowFault.TheVariants as show
+use Rattle.ntfs_volume.specs.declared.fault.VolumeFault.{VolumeFault}
+use Rattle.ntfs_volume.specs.declared.fault.VolumeFault.TheVariants as volume
 use Rattle.ntfs_run.specs.declared.status.Status.{Status}
 use Rattle.ntfs_run.specs.declared.status.Status.TheVariants as status
 
@@ -55,6 +58,18 @@ image_status image.NotNtfs = status.NotNtfs
 image_status (image.BadGeometry field value) = status.BadGeometry field value
 image_status (image.ImageShort len need) = status.ImageShort len need
 image_status image.ReadFault = status.ReadFault
+
+-- of the opening of a volume; the last two, which speak of record 0, come from no opening
+abbrev pub volume_status : VolumeFault → Status
+volume_status volume.NotNtfs = status.NotNtfs
+volume_status (volume.BadGeometry field value) = status.BadGeometry field value
+volume_status (volume.ImageShort len need) = status.ImageShort len need
+volume_status (volume.Damaged rule number) = status.Damaged rule number
+volume_status volume.ReadFault = status.ReadFault
+volume_status volume.WriteFault = status.WriteFault
+volume_status volume.NoMemory = status.NoMemory
+volume_status volume.Absent = status.NotFound (missing.Record 0)
+volume_status volume.NoAttribute = status.NotFound missing.Stream
 
 -- of a call that prints
 abbrev pub show_status : ShowFault → Status

@@ -1,7 +1,8 @@
 use ntfs_base::{Lack, Missing, Named, PutFault, Rule, UsageKind};
 use ntfs_boot::ImageFault;
 use ntfs_make::MakeFault;
-use ntfs_show::{CatFault, ShowFault};
+use ntfs_show::ShowFault;
+use ntfs_volume::VolumeFault;
 
 /// How a command ended.
 #[derive(Clone, Copy, Debug, PartialEq, Eq)]
@@ -98,6 +99,31 @@ impl From<ImageFault> for Status {
     }
 }
 
+impl From<VolumeFault> for Status {
+    ghost use Rattle.std.specs.Prelude.{◌≡◌};
+    ghost use Rattle.ntfs_run.specs.Outcome.{volume_status};
+
+    ghost from_gives = { λ fault status. status ≡ volume_status fault };
+
+    fn from(fault: VolumeFault) -> Status {
+        match fault {
+            VolumeFault::NotNtfs => Status::NotNtfs,
+            VolumeFault::BadGeometry { field, value } => Status::BadGeometry { field, value },
+            VolumeFault::ImageShort { len, need } => Status::ImageShort { len, need },
+            VolumeFault::Damaged { rule, number } => Status::Damaged { rule, number },
+            VolumeFault::ReadFault => Status::ReadFault,
+            VolumeFault::WriteFault => Status::WriteFault,
+            VolumeFault::NoMemory => Status::NoMemory,
+            VolumeFault::Absent => Status::NotFound {
+                what: Missing::Record { number: 0 },
+            },
+            VolumeFault::NoAttribute => Status::NotFound {
+                what: Missing::Stream,
+            },
+        }
+    }
+}
+
 impl From<ShowFault> for Status {
     ghost use Rattle.std.specs.Prelude.{◌≡◌};
     ghost use Rattle.ntfs_run.specs.Outcome.{show_status};
@@ -112,27 +138,6 @@ impl From<ShowFault> for Status {
             ShowFault::ReadFault => Status::ReadFault,
             ShowFault::WriteFault => Status::WriteFault,
             ShowFault::NoMemory => Status::NoMemory,
-        }
-    }
-}
-
-impl From<CatFault> for Status {
-    ghost use Rattle.std.specs.Prelude.{◌≡◌};
-    ghost use Rattle.ntfs_run.specs.Cat.{cat_status};
-
-    ghost from_gives = { λ fault status. status ≡ cat_status fault };
-
-    fn from(fault: CatFault) -> Status {
-        match fault {
-            CatFault::NotNtfs => Status::NotNtfs,
-            CatFault::BadGeometry { field, value } => Status::BadGeometry { field, value },
-            CatFault::ImageShort { len, need } => Status::ImageShort { len, need },
-            CatFault::NotFound { what } => Status::NotFound { what },
-            CatFault::NotPlain { flags } => Status::NotPlain { flags },
-            CatFault::Damaged { rule, number } => Status::Damaged { rule, number },
-            CatFault::ReadFault => Status::ReadFault,
-            CatFault::WriteFault => Status::WriteFault,
-            CatFault::NoMemory => Status::NoMemory,
         }
     }
 }

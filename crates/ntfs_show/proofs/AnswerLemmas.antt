@@ -1,21 +1,26 @@
--- Answers that a definition gives, and their expected value in other words.
-use Rattle.std.proofs.Common.{◌≡◌, List, ℕ, sym, subst, Result, Ok, Err}
-use Rattle.ntfs_base.specs.Frames.{Origin, IsSettled, Gives, Puts}
-use Rattle.ntfs_base.specs.Sink.{SinkState}
+-- Answers that a definition gives, in the words of the caller.
+use Rattle.std.proofs.Common.{◌≡◌, List, ℕ, refl, ap, sym, subst, ◌∙◌, Result, Ok, Err}
+use Rattle.ntfs_base.specs.Frames.{Origin, IsSettled, Puts, PutsPrefix, bytes_in, refused_as, without_bytes}
+use Rattle.ntfs_base.specs.Sink.{SinkState, after_put}
 
-pub gives_by : {T U E : Type 0} (origin : E → Origin) (view : T → U) (a b : Result U E) (result : Result T E) → a ≡ b → Gives origin view b result → Gives origin view a result
-gives_by {U = U} {E = E} origin view a b result is = subst (λ (e : Result U E). Gives origin view e result) (sym is)
-
-pub puts_by : {E : Type 0} (origin : E → Origin) (a b : Result (List ℕ) E) (old : SinkState) (result : Result (Unit {0}) E) (new : SinkState) → a ≡ b → Puts origin b old result new → Puts origin a old result new
+pub puts_by : {E : Type 0} (origin : E → Origin) (a b : Result (List ℕ) E) (old : SinkState) (result : Result (Unit {0}) E) (new : SinkState) → a ≡ b
+    → Puts origin b old result new → Puts origin a old result new
 puts_by {E = E} origin a b old result new is = subst (λ (e : Result (List ℕ) E). Puts origin e old result new) (sym is)
 
--- the value of an answer
-pub given : {T E : Type 0} (x y : T) → ◌≡◌ {A = Result T E} (Ok x) (Ok y) → y ≡ x
-given x y is = cc
+bytes_refused : {E F : Type 0} (over : E → F) (expected : Result (List ℕ) E) → bytes_in expected ≡ bytes_in (refused_as over expected)
+bytes_refused over (Ok bytes) = refl
+bytes_refused over (Err fault) = refl
 
--- a refusal where there is a value to give cuts the work off
-pub never : {T E : Type 0} (origin : E → Origin) (x : T) (fault : E) → (IsSettled (origin fault) → ◌≡◌ {A = Result T E} (Ok x) (Err fault)) → IsSettled (origin fault) → ⊥
-never origin x fault is settled = let same = is settled in cc
+answer_refused : {E F : Type 0} (over : E → F) (fault : E) (expected : Result (List ℕ) E) → Err fault ≡ without_bytes expected → Err (over fault) ≡ without_bytes (refused_as over expected)
+answer_refused over fault (Ok bytes) is = absurd cc
+answer_refused over fault (Err other) is = let same : fault ≡ other = cc in ap (λ e. Err (over e)) same
 
-pub never-puts : {E : Type 0} (origin : E → Origin) (bytes : List ℕ) (old new : SinkState) (fault : E) → Puts origin (Ok bytes) old (Err fault) new → IsSettled (origin fault) → ⊥
-never-puts origin bytes old new fault puts settled = let same = puts.answer settled in cc
+-- what a callee puts before it refuses, for its caller
+pub puts_refused : {E F : Type 0} (inner : E → Origin) (outer : F → Origin) (over : E → F) → ((e : E) → outer (over e) ≡ inner e)
+    → (expected : Result (List ℕ) E) (old : SinkState) (fault : E) (new : SinkState) → Puts inner expected old (Err fault) new
+    → Puts outer (refused_as over expected) old (Err (over fault)) new
+puts_refused inner outer over same expected old fault new puts = record {
+  answer = λ settled. answer_refused over fault expected (puts.answer (subst IsSettled (same fault) settled));
+  output = λ settled. puts.output (subst IsSettled (same fault) settled) ∙ ap (λ bytes. after_put bytes old) (bytes_refused over expected);
+  prefix = subst (λ bytes. PutsPrefix bytes old new) (bytes_refused over expected) puts.prefix;
+}

@@ -1,8 +1,3 @@
 pub mod AnswerLemmas
-pub mod BoolLemmas
-pub mod CellsLemmas
-pub mod ListsLemmas
-pub mod ExtentsLemmas
-pub mod StreamBytesLemmas
-pub mod PutLemmas
+pub mod BufferLemmas
 pub mod CatLemmas

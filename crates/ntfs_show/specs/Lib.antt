@@ -1,11 +1,5 @@
 pub use Rattle.ntfs_base.specs.Bytes
-pub use Rattle.ntfs_base.specs.Causes
-pub use Rattle.ntfs_base.specs.Source
-pub use Rattle.ntfs_base.specs.Sink
 pub use Rattle.ntfs_boot.specs.Geometry
-pub mod Info
 pub mod Fault
-pub mod Gather
-pub mod StreamBytes
+pub mod Info
 pub mod Cat
-pub mod Putting

@@ -1,18 +1,13 @@
-//! What the tools print: the geometry of a volume, and the stream of a record.
+//! What the tools print: the geometry of a volume, and the streams of its records.
 #![tactic(auto)]
 
-mod cat;
-mod cat_fault;
-mod extents;
 mod fault;
 mod info;
-mod stream;
-mod wanted;
+mod streams;
 
-pub use cat::cat_record;
-pub use cat_fault::CatFault;
 pub use fault::ShowFault;
 pub use info::info_volume;
+pub use streams::{cat, cat_stream};
 
 #[cfg(test)]
 mod tests;
