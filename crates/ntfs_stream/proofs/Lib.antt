@@ -1,4 +1,5 @@
 pub mod AnswerLemmas
 pub mod BoolLemmas
 pub mod StreamBytesLemmas
+pub mod RowLemmas
 pub mod PutLemmas

@@ -1,9 +1,7 @@
 -- Bytes that are put piece by piece.
-use Rattle.std.proofs.Common.{◌≡◌, ◌≤◌, ◌<◌, ◌+◌, ◌-◌, ◌*◌, ◌&&◌, ℕ, zero, suc, List, [], ◌∷◌, ◌++◌, length, take, drop, get_or, min, refl, sym, ap, ◌∙◌, subst, arith, length-append, append_assoc, Ok, Err, Bool, true, Option, Some, None, nat_lt}
-use Rattle.std.specs.Prelude.{IfSome}
+use Rattle.std.proofs.Common.{◌≡◌, ◌≤◌, ◌<◌, ◌+◌, ◌-◌, ◌*◌, ℕ, zero, suc, List, [], ◌∷◌, ◌++◌, length, take, drop, get_or, min, refl, sym, ap, ◌∙◌, subst, arith, length-append, append_assoc, Ok, Err, Option}
 use Rattle.std.specs.Option.{option_map}
 use Rattle.std.proofs.Math.Seq.{take-append-add}
-use Rattle.std.proofs.lemmas.Bool.{ltb-true}
 use Rattle.std.proofs.lemmas.List.{append-nil, drop_more, length-map, map-append, take-append-le, take_all}
 use Rattle.ntfs_base.specs.Frames.{IsSettled, Origin, Puts, PutsPrefix}
 use Rattle.ntfs_base.specs.Sink.{Put, SinkState, after_put}
@@ -14,10 +12,10 @@ use Rattle.ntfs_runs.specs.declared.run.Run.{Run}
 use Rattle.ntfs_runs.specs.Clusters.{behind, row, vcns}
 use Rattle.ntfs_runs.proofs.CellsLemmas.{length-row, no_run, vcns-all}
 use Rattle.ntfs_stream.specs.Fault.{sink_fault, stream_origin}
-use Rattle.ntfs_runs.specs.Cells.{are_cells, is_cell, map_cells}
+use Rattle.ntfs_runs.specs.Cells.{map_cells}
 use Rattle.ntfs_stream.specs.Putting.{IsLeft, IsLeftBehind, pieces, shown_cell}
-use Rattle.ntfs_stream.specs.declared.rows.Remaining.{Remaining}
-use Rattle.ntfs_stream.proofs.BoolLemmas.{and-left, and-right}
+use Rattle.ntfs_stream.specs.declared.row.Remaining.{Remaining}
+use Rattle.ntfs_stream.proofs.RowLemmas.{row-split}
 
 -- a refusal of the sink cuts the work off
 pub sink-cuts : (fault : PutFault) → IsSettled (stream_origin (sink_fault fault)) → ⊥
@@ -74,76 +72,7 @@ pub puts-end : {E : Type 0} (origin : E → Origin) (all rest : List ℕ) (old n
 puts-end origin all rest old now left none =
     puts-whole origin all old now (left.put ∙ ap (λ bytes. after_put bytes old) (sym (left.parts ∙ ap (λ xs. left.so_far ++ xs) none ∙ append-nil left.so_far)))
 
--- ---- a run, cell by cell
-
-row-split : (count : ℕ) (cell : Option ℕ) → 0 < count → row count cell ≡ cell ∷ row (count - 1) (behind cell 1)
-unfolding row
-row-split zero cell some = absurd (omega arith)
-row-split (suc m) cell some = let same : suc m - 1 ≡ m = omega arith in ap (λ k. cell ∷ row k (behind cell 1)) (sym same)
-
-first-cell : (n : ℕ) (cell : Option ℕ) (rest : Bool) → (is_cell true n cell && rest) ≡ true → IfSome cell (λ lcn. lcn < n)
-first-cell n None rest is = tt
-first-cell n (Some k) rest is = ltb-true k n (and-left (nat_lt k n) rest is)
-
-split-cells : (n count : ℕ) (cell : Option ℕ) → 0 < count → are_cells true n (row count cell) ≡ true → (is_cell true n cell && are_cells true n (row (count - 1) (behind cell 1))) ≡ true
-unfolding are_cells
-split-cells n count cell some are = sym (ap (are_cells true n) (row-split count cell some)) ∙ are
-
-pub run-first : (n count : ℕ) (cell : Option ℕ) → 0 < count → are_cells true n (row count cell) ≡ true → IfSome cell (λ lcn. lcn < n)
-run-first n count cell some are = first-cell n cell (are_cells true n (row (count - 1) (behind cell 1))) (split-cells n count cell some are)
-
-pub run-rest : (n count : ℕ) (cell : Option ℕ) → 0 < count → are_cells true n (row count cell) ≡ true → are_cells true n (row (count - 1) (behind cell 1)) ≡ true
-run-rest n count cell some are = and-right (is_cell true n cell) (are_cells true n (row (count - 1) (behind cell 1))) (split-cells n count cell some are)
-
-pieces-split : (f : ℕ → List ℕ) (c s v count : ℕ) (cell : Option ℕ) → 0 < count
-    → pieces c s v (map_cells f (row count cell)) ≡ take (min s c) (shown_cell c v (option_map f cell)) ++ pieces c (s - c) (v - c) (map_cells f (row (count - 1) (behind cell 1)))
-unfolding pieces
-pieces-split f c s v count cell some = ap (λ cells. pieces c s v (map_cells f cells)) (row-split count cell some)
-
--- a cell was put
-pub run-step : (all : List ℕ) (f : ℕ → List ℕ) (c s v count n : ℕ) (cell : Option ℕ) (buffer : List ℕ) (old now after : SinkState) → 0 < count → n ≡ min s c → buffer ≡ shown_cell c v (option_map f cell)
-    → IsLeft all (pieces c s v (map_cells f (row count cell))) old now → after ≡ after_put (take n buffer) now → IsLeft all (pieces c (s - c) (v - c) (map_cells f (row (count - 1) (behind cell 1)))) old after
-run-step all f c s v count n cell buffer old now after some least is left put =
-    let piece : take n buffer ≡ take (min s c) (shown_cell c v (option_map f cell)) = ap (λ k. take k buffer) least ∙ ap (take (min s c)) is in
-    left-more all (take (min s c) (shown_cell c v (option_map f cell))) (pieces c (s - c) (v - c) (map_cells f (row (count - 1) (behind cell 1)))) old now after
-    (subst (λ (rest : List ℕ). IsLeft all rest old now) (pieces-split f c s v count cell some) left) (put ∙ ap (λ bytes. after_put bytes now) piece)
-
--- or was cut off
-pub run-cut : {E : Type 0} (origin : E → Origin) (all : List ℕ) (f : ℕ → List ℕ) (c s v count n : ℕ) (cell : Option ℕ) (buffer : List ℕ) (old now after : SinkState) (fault : E) → (IsSettled (origin fault) → ⊥)
-    → 0 < count → n ≡ min s c → buffer ≡ shown_cell c v (option_map f cell) → IsLeft all (pieces c s v (map_cells f (row count cell))) old now → PutsPrefix (take n buffer) now after → Puts origin (Ok all) old (Err fault) after
-run-cut origin all f c s v count n cell buffer old now after fault never some least is left put =
-    let piece : take n buffer ≡ take (min s c) (shown_cell c v (option_map f cell)) = ap (λ k. take k buffer) least ∙ ap (take (min s c)) is in
-    puts-cut origin all (take (min s c) (shown_cell c v (option_map f cell))) (pieces c (s - c) (v - c) (map_cells f (row (count - 1) (behind cell 1)))) old now after fault never
-    (subst (λ (rest : List ℕ). IsLeft all rest old now) (pieces-split f c s v count cell some) left) (subst (λ (bytes : List ℕ). PutsPrefix bytes now after) piece put)
-
--- no bytes are left, or no cells
-pub pieces-none : (c v : ℕ) (cells : List (Option (List ℕ))) → pieces c 0 v cells ≡ []
-unfolding pieces
-pieces-none c v [] = refl
-pieces-none c v (cell ∷ cells) =
-    let least : min 0 c ≡ 0 = omega arith in
-    let rest : 0 - c ≡ 0 = omega arith in
-    ap (λ n. take n (shown_cell c v cell) ++ pieces c (0 - c) (v - c) cells) least ∙ ap (λ s. pieces c s (v - c) cells) rest ∙ pieces-none c (v - c) cells
-
-pub run-end : (f : ℕ → List ℕ) (c s v : ℕ) (cell : Option ℕ) → pieces c s v (map_cells f (row zero cell)) ≡ []
-unfolding row pieces
-run-end f c s v cell = refl
-
-pub count-step : (all left c length count k : ℕ) → k ≡ c → 0 < count → count ≤ length → left ≡ all - (length - count) * c → left - k ≡ all - (length - (count - 1)) * c
-count-step all left c length count k same some within is =
-    let next : length - (count - 1) ≡ (length - count) + 1 = omega arith in
-    omega (arith, ap (λ n. n * c) next, is, same)
-
--- the sizes and the cell behind it, as they were reckoned
-pub run-next : (all : List ℕ) (f : ℕ → List ℕ) (c s v m k size valid : ℕ) (cell next : Option ℕ) (old after : SinkState) → k ≡ c → size ≡ s - k → valid ≡ v - k → next ≡ behind cell 1
-    → IsLeft all (pieces c (s - c) (v - c) (map_cells f (row m (behind cell 1)))) old after → IsLeft all (pieces c size valid (map_cells f (row m next))) old after
-run-next all f c s v m k size valid cell next old after same size_is valid_is next_is left =
-    subst (λ (rest : List ℕ). IsLeft all rest old after) (sym (
-    ap (λ n. pieces c n valid (map_cells f (row m next))) (size_is ∙ ap (λ n. s - n) same)
-    ∙ ap (λ n. pieces c (s - c) n (map_cells f (row m next))) (valid_is ∙ ap (λ n. v - n) same)
-    ∙ ap (λ o. pieces c (s - c) (v - c) (map_cells f (row m o))) next_is)) left
-
--- ---- runs, one after the other
+-- ---- cells, one after the other
 
 sum_step : (s c n : ℕ) → (s - c) - n * c ≡ s - suc n * c
 sum_step s c n = omega arith
@@ -160,6 +89,68 @@ pieces-append c s v (cell ∷ cells) rest =
     ∙ ap (λ n. pieces c (s - c) (v - c) cells ++ pieces c n ((v - c) - length cells * c) rest) (sum_step s c (length cells))
     ∙ ap (λ n. pieces c (s - c) (v - c) cells ++ pieces c (s - suc (length cells) * c) n rest) (sum_step v c (length cells)))
     ∙ sym (append_assoc (take (min s c) (shown_cell c v cell)) (pieces c (s - c) (v - c) cells) (pieces c (s - suc (length cells) * c) (v - suc (length cells) * c) rest))
+
+-- ---- a run, row by row
+
+-- no bytes are left, or no cells
+pub pieces-none : (c v : ℕ) (cells : List (Option (List ℕ))) → pieces c 0 v cells ≡ []
+unfolding pieces
+pieces-none c v [] = refl
+pieces-none c v (cell ∷ cells) =
+    let least : min 0 c ≡ 0 = omega arith in
+    let rest : 0 - c ≡ 0 = omega arith in
+    ap (λ n. take n (shown_cell c v cell) ++ pieces c (0 - c) (v - c) cells) least ∙ ap (λ s. pieces c s (v - c) cells) rest ∙ pieces-none c (v - c) cells
+
+pub run-end : (f : ℕ → List ℕ) (c s v : ℕ) (cell : Option ℕ) → pieces c s v (map_cells f (row zero cell)) ≡ []
+unfolding row pieces
+run-end f c s v cell = refl
+
+pub pieces-row : (f : ℕ → List ℕ) (c s v n k : ℕ) (cell : Option ℕ) → k ≤ n
+    → pieces c s v (map_cells f (row n cell)) ≡ pieces c s v (map_cells f (row k cell)) ++ pieces c (s - k * c) (v - k * c) (map_cells f (row (n - k) (behind cell k)))
+pieces-row f c s v n k cell within =
+    let front = row k cell in
+    let rest = row (n - k) (behind cell k) in
+    let long : length (map_cells f front) ≡ k = length-map front (option_map f) ∙ length-row k cell in
+    ap (λ cells. pieces c s v (map_cells f cells)) (row-split n k cell within)
+    ∙ ap (pieces c s v) (map-append (option_map f) front rest)
+    ∙ pieces-append c s v (map_cells f front) (map_cells f rest)
+    ∙ ap (λ m. pieces c s v (map_cells f front) ++ pieces c (s - m * c) (v - m * c) (map_cells f rest)) long
+
+-- a row was put
+pub rows-step : (all : List ℕ) (f : ℕ → List ℕ) (c : ℕ) (left part next : Run) (before behind_it : Remaining) (old now after : SinkState)
+    → part.length ≤ left.length → part.lcn ≡ left.lcn → next.length ≡ left.length - part.length → next.lcn ≡ behind left.lcn part.length → IsLeftBehind c part.length before behind_it
+    → IsLeft all (pieces c before.size before.valid (map_cells f (row left.length left.lcn))) old now
+    → after ≡ after_put (pieces c before.size before.valid (map_cells f (row part.length part.lcn))) now
+    → IsLeft all (pieces c behind_it.size behind_it.valid (map_cells f (row next.length next.lcn))) old after
+rows-step all f c left part next before behind_it old now after within begins length_is lcn_is sizes is put =
+    let k = part.length in
+    let rest = row (left.length - k) (behind left.lcn k) in
+    let put_here = put ∙ ap (λ o. after_put (pieces c before.size before.valid (map_cells f (row k o))) now) begins in
+    let more = left-more all (pieces c before.size before.valid (map_cells f (row k left.lcn))) (pieces c (before.size - k * c) (before.valid - k * c) (map_cells f rest)) old now after
+    (subst (λ (bytes : List ℕ). IsLeft all bytes old now) (pieces-row f c before.size before.valid left.length k left.lcn within) is) put_here in
+    subst (λ (bytes : List ℕ). IsLeft all bytes old after) (sym (
+    ap (λ n. pieces c n behind_it.valid (map_cells f (row next.length next.lcn))) sizes.size
+    ∙ ap (λ n. pieces c (before.size - k * c) n (map_cells f (row next.length next.lcn))) sizes.valid
+    ∙ ap (λ n. pieces c (before.size - k * c) (before.valid - k * c) (map_cells f (row n next.lcn))) length_is
+    ∙ ap (λ o. pieces c (before.size - k * c) (before.valid - k * c) (map_cells f (row (left.length - k) o))) lcn_is)) more
+
+-- or was cut off
+pub rows-cut : {E : Type 0} (origin : E → Origin) (all : List ℕ) (f : ℕ → List ℕ) (c : ℕ) (left part : Run) (before : Remaining) (old now after : SinkState) (fault : E) → (IsSettled (origin fault) → ⊥)
+    → part.length ≤ left.length → part.lcn ≡ left.lcn → IsLeft all (pieces c before.size before.valid (map_cells f (row left.length left.lcn))) old now
+    → PutsPrefix (pieces c before.size before.valid (map_cells f (row part.length part.lcn))) now after → Puts origin (Ok all) old (Err fault) after
+rows-cut origin all f c left part before old now after fault never within begins is put =
+    let k = part.length in
+    puts-cut origin all (pieces c before.size before.valid (map_cells f (row k left.lcn))) (pieces c (before.size - k * c) (before.valid - k * c) (map_cells f (row (left.length - k) (behind left.lcn k)))) old now after fault never
+    (subst (λ (bytes : List ℕ). IsLeft all bytes old now) (pieces-row f c before.size before.valid left.length k left.lcn within) is)
+    (subst (λ (o : Option ℕ). PutsPrefix (pieces c before.size before.valid (map_cells f (row k o))) now after) begins put)
+
+-- what remains behind the clusters so far
+pub count-step : (all left c length count k bytes : ℕ) → k ≤ count → count ≤ length → bytes ≡ k * c → left ≡ all - (length - count) * c → left - bytes ≡ all - (length - (count - k)) * c
+count-step all left c length count k bytes some within each is =
+    let next : length - (count - k) ≡ (length - count) + k = omega arith in
+    omega (arith, ap (λ n. n * c) next, is, each)
+
+-- ---- runs, one after the other
 
 pub pieces-run : (f : ℕ → List ℕ) (c s v i : ℕ) (runs : List Run) → i < length runs
     → pieces c s v (map_cells f (vcns (drop i runs)))

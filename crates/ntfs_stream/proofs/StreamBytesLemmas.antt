@@ -1,37 +1,21 @@
 -- The bytes of a stream, cell by cell.
-use Rattle.std.proofs.Common.{◌≡◌, ◌≤◌, ◌<◌, ◌+◌, ◌-◌, ◌*◌, ◌&&◌, ℕ, List, [], ◌∷◌, ◌++◌, length, take, drop, min, refl, sym, ap, ◌∙◌, subst, arith, slice_range, append_assoc, Bool, true, false, Option, Some, None, nat_lt, Ok, Err, if◌then◌else◌}
+use Rattle.std.proofs.Common.{◌≡◌, ◌≤◌, ◌<◌, ◌+◌, ◌-◌, ◌*◌, ◌&&◌, ℕ, suc, List, [], ◌∷◌, ◌++◌, length, take, min, refl, sym, ap, ◌∙◌, subst, arith, append_assoc, length-append, Bool, true, false, Option, Some, None, nat_lt, Ok, Err, if◌then◌else◌}
 use Rattle.std.specs.Prelude.{replicate}
 use Rattle.std.specs.Option.{option_map}
-use Rattle.std.proofs.lemmas.List.{length-replicate, length-take-le, take_all, take_min, take-replicate, replicate-append-replicate, take-append-le, append-nil}
+use Rattle.std.proofs.lemmas.List.{length-replicate, length-map, length-take, length-take-le, take_all, take-replicate, replicate-append-replicate, take-append-le, append-nil}
 use Rattle.ntfs_base.specs.Bytes.{cluster_at}
 use Rattle.std.proofs.Common.{◌⊎◌, inl, inr, nat_le}
 use Rattle.std.proofs.Math.Seq.{take-append-add}
 use Rattle.std.proofs.lemmas.Bool.{cases_lt, leb-true, ltb-true}
 use Rattle.ntfs_runs.specs.Cells.{are_cells, is_cell, map_cells}
 use Rattle.ntfs_boot.specs.declared.geometry.Geometry.{Geometry}
-use Rattle.ntfs_stream.specs.Putting.{pieces, shown_cell}
+use Rattle.ntfs_stream.specs.Putting.{pieces, shown_cell, shown_cells}
 use Rattle.ntfs_volume.specs.Streams.{IsReadable, Stream}
 use Rattle.ntfs_base.proofs.BytesLemmas.{length-cluster_at}
 use Rattle.ntfs_stream.proofs.BoolLemmas.{and-left, and-right}
 use Rattle.ntfs_volume.specs.StreamBytes.{cell_bytes, cells_bytes, have_room, runs_bytes}
 use Rattle.ntfs_stream.specs.declared.fault.StreamFault.TheVariants.{NotPlain}
 use Rattle.ntfs_stream.specs.StreamBytes.{bytes_of_stream, filled_stream, is_plain, stream_outcome}
-
--- what was read from a place
-read-from : (content into : List ℕ) (at from len size : ℕ) → into ≡ slice_range content at (at + len) → at ≡ from → len ≡ size → into ≡ take size (drop from content)
-read-from content into at from len size is place long =
-    let count : at + len - at ≡ size = omega arith in
-    is ∙ ap (λ n. take n (drop at content)) count ∙ ap (λ p. take size (drop p content)) place
-
--- a cluster that was read, and then cleared from the initialised size on
-pub cleared : (content buffer after : List ℕ) (c lcn valid at k from : ℕ) → k ≡ c → lcn * c + c ≤ length content → at ≡ lcn * c → length buffer ≡ c → from ≡ min valid k
-    → buffer ≡ slice_range content at (at + c) → after ≡ take from buffer ++ replicate (length buffer - from) 0 → after ≡ shown_cell c valid (Some (cluster_at content c lcn))
-unfolding cluster_at
-cleared content buffer after c lcn valid at k from same within place long least read is =
-    let bytes = read-from content buffer at (lcn * c) c c read place refl in
-    let front : take from buffer ≡ take valid buffer = ap (λ n. take n buffer) (least ∙ ap (min valid) (same ∙ sym long)) ∙ take_min valid buffer in
-    let rest : length buffer - from ≡ c - valid = omega (arith, long, least, same) in
-    is ∙ ap (λ xs. xs ++ replicate (length buffer - from) 0) front ∙ ap (λ n. take valid buffer ++ replicate n 0) rest ∙ ap (λ xs. take valid xs ++ replicate (c - valid) 0) bytes
 
 -- a hole is zeros
 pub hole-cell : (c v : ℕ) → shown_cell c v None ≡ replicate c 0
@@ -52,73 +36,93 @@ pub cluster-within : (k n c size : ℕ) → k < n → n * c ≤ size → k * c +
 cluster-within k n c size lt held = let end = cluster_end k n c lt in omega (arith, end, held)
 
 -- each cluster below the end has its bytes
-clusters-long : (content : List ℕ) (c n : ℕ) → n * c ≤ length content → (k : ℕ) → k < n → length (cluster_at content c k) ≡ c
+pub clusters-long : (content : List ℕ) (c n : ℕ) → n * c ≤ length content → (k : ℕ) → k < n → length (cluster_at content c k) ≡ c
 clusters-long content c n held k below = length-cluster_at content c k (cluster-within k n c (length content) below held)
 
--- ---- the pieces of all cells are the stream's bytes
-
-whole_cell : (c s v : ℕ) (b : List ℕ) → length b ≡ c → c ≤ v → v ≤ s → take (min s c) (take v b ++ replicate (c - v) 0) ≡ b
-whole_cell c s v b long large within =
-    let least : min s c ≡ c = omega arith in
-    let none : c - v ≡ 0 = omega arith in
-    ap (λ n. take n (take v b ++ replicate (c - v) 0)) least
-    ∙ ap (λ n. take c (take v b ++ replicate n 0)) none
-    ∙ ap (take c) (append-nil (take v b) ∙ take_all v b (omega arith))
-    ∙ take_all c b (omega arith)
-
-part_cell : (c s v : ℕ) (b : List ℕ) → length b ≡ c → v < c → v ≤ s → take (min s c) (take v b ++ replicate (c - v) 0) ≡ take v b ++ replicate (min s c - v) 0
-part_cell c s v b long small within =
-    let front : length (take v b) ≡ v = length-take-le v b (omega arith) in
-    let size : min s c ≡ length (take v b) + (min s c - v) = omega arith in
-    ap (λ n. take n (take v b ++ replicate (c - v) 0)) size
-    ∙ take-append-add (take v b) (replicate (c - v) 0) (min s c - v)
-    ∙ ap (λ xs. take v b ++ xs) (take-replicate (min s c - v) (c - v) 0 (omega arith))
-
-cell-law : (c s v : ℕ) (b rest : List ℕ) → length b ≡ c → v ≤ s → (v < c) ⊎ (c ≤ v)
-    → take (min s c) (take v b ++ replicate (c - v) 0) ++ (take (v - c) rest ++ replicate ((s - c) - (v - c)) 0) ≡ take v (b ++ rest) ++ replicate (s - v) 0
-cell-law c s v b rest long within (inr large) =
-    let place : v ≡ length b + (v - c) = omega arith in
-    let left : (s - c) - (v - c) ≡ s - v = omega arith in
-    ap (λ xs. xs ++ (take (v - c) rest ++ replicate ((s - c) - (v - c)) 0)) (whole_cell c s v b long large within)
-    ∙ sym (append_assoc b (take (v - c) rest) (replicate ((s - c) - (v - c)) 0))
-    ∙ ap (λ n. (b ++ take (v - c) rest) ++ replicate n 0) left
-    ∙ ap (λ xs. xs ++ replicate (s - v) 0) (sym (ap (λ n. take n (b ++ rest)) place ∙ take-append-add b rest (v - c)))
-cell-law c s v b rest long within (inl small) =
-    let none : v - c ≡ 0 = omega arith in
-    let left : (s - c) - (v - c) ≡ s - c = omega arith in
-    let all : (min s c - v) + (s - c) ≡ s - v = omega arith in
-    ap (λ xs. xs ++ (take (v - c) rest ++ replicate ((s - c) - (v - c)) 0)) (part_cell c s v b long small within)
-    ∙ ap (λ n. (take v b ++ replicate (min s c - v) 0) ++ (take n rest ++ replicate ((s - c) - (v - c)) 0)) none
-    ∙ ap (λ n. (take v b ++ replicate (min s c - v) 0) ++ replicate n 0) left
-    ∙ append_assoc (take v b) (replicate (min s c - v) 0) (replicate (s - c) 0)
-    ∙ ap (λ xs. take v b ++ xs) (replicate-append-replicate (min s c - v) (s - c) 0 ∙ ap (λ n. replicate n 0) all)
-    ∙ ap (λ xs. xs ++ replicate (s - v) 0) (sym (take-append-le v b rest (omega arith)))
+-- ---- cells in a row
 
 cell_long : (f : ℕ → List ℕ) (c n : ℕ) (cell : Option ℕ) (rest : Bool) → ((k : ℕ) → k < n → length (f k) ≡ c) → (is_cell true n cell && rest) ≡ true → length (cell_bytes c (option_map f cell)) ≡ c
 cell_long f c n None rest long is = length-replicate c 0
 cell_long f c n (Some k) rest long is = long k (ltb-true k n (and-left (nat_lt k n) rest is))
 
-no_bytes : (v s : ℕ) → v ≤ s → s ≤ 0 → ◌≡◌ {A = List ℕ} [] (take v [] ++ replicate (s - v) 0)
-no_bytes v s within none =
-    let valid : v ≡ 0 = omega arith in
-    let left : s - v ≡ 0 = omega arith in
-    let none : List ℕ = [] in
-    sym (ap (λ n. take n none ++ replicate (s - v) 0) valid ∙ ap (λ n. replicate n 0) left)
+pub length-cells : (f : ℕ → List ℕ) (c n : ℕ) (cells : List (Option ℕ)) → ((k : ℕ) → k < n → length (f k) ≡ c) → are_cells true n cells ≡ true → length (cells_bytes c (map_cells f cells)) ≡ length cells * c
+unfolding are_cells cells_bytes
+length-cells f c n [] long are = omega arith
+length-cells f c n (cell ∷ cells) long are =
+    omega (arith, length-append (cell_bytes c (option_map f cell)) (cells_bytes c (map_cells f cells)), cell_long f c n cell (are_cells true n cells) long are, length-cells f c n cells long (and-right (is_cell true n cell) (are_cells true n cells) are))
 
-pub pieces-whole : (f : ℕ → List ℕ) (c n s v : ℕ) (cells : List (Option ℕ)) → ((k : ℕ) → k < n → length (f k) ≡ c) → are_cells true n cells ≡ true → v ≤ s → s ≤ length cells * c
-    → pieces c s v (map_cells f cells) ≡ take v (cells_bytes c (map_cells f cells)) ++ replicate (s - v) 0
-unfolding pieces cells_bytes are_cells
-pieces-whole f c n s v [] long are within room = no_bytes v s within (omega (arith, room))
-pieces-whole f c n s v (cell ∷ cells) long are within room =
+-- one cell and those behind it
+shown-split : (c v m : ℕ) (b rest : List ℕ) → length b ≡ c → (v < c) ⊎ (c ≤ v)
+    → take v (b ++ rest) ++ replicate (suc m * c - v) 0 ≡ (take v b ++ replicate (c - v) 0) ++ (take (v - c) rest ++ replicate (m * c - (v - c)) 0)
+shown-split c v m b rest long (inr large) =
+    let place : v ≡ length b + (v - c) = omega arith in
+    let none : c - v ≡ 0 = omega arith in
+    let left : suc m * c - v ≡ m * c - (v - c) = omega arith in
+    let front : take v b ++ replicate (c - v) 0 ≡ b = ap (λ n. take v b ++ replicate n 0) none ∙ append-nil (take v b) ∙ take_all v b (omega arith) in
+    ap (λ n. take v (b ++ rest) ++ replicate n 0) left
+    ∙ ap (λ xs. xs ++ replicate (m * c - (v - c)) 0) (ap (λ n. take n (b ++ rest)) place ∙ take-append-add b rest (v - c))
+    ∙ append_assoc b (take (v - c) rest) (replicate (m * c - (v - c)) 0)
+    ∙ ap (λ xs. xs ++ (take (v - c) rest ++ replicate (m * c - (v - c)) 0)) (sym front)
+shown-split c v m b rest long (inl small) =
+    let none : v - c ≡ 0 = omega arith in
+    let left : m * c - (v - c) ≡ m * c = omega arith in
+    let all : (c - v) + m * c ≡ suc m * c - v = omega arith in
+    let behind : take (v - c) rest ++ replicate (m * c - (v - c)) 0 ≡ replicate (m * c) 0 = ap (λ n. take n rest ++ replicate (m * c - (v - c)) 0) none ∙ ap (λ n. replicate n 0) left in
+    ap (λ xs. xs ++ replicate (suc m * c - v) 0) (take-append-le v b rest (omega arith))
+    ∙ ap (λ xs. take v b ++ xs) (ap (λ n. replicate n 0) (sym all) ∙ sym (replicate-append-replicate (c - v) (m * c) 0))
+    ∙ sym (append_assoc (take v b) (replicate (c - v) 0) (replicate (m * c) 0))
+    ∙ ap (λ xs. (take v b ++ replicate (c - v) 0) ++ xs) (sym behind)
+
+take-both : (s c : ℕ) (xs ys : List ℕ) → length xs ≡ c → (s < c) ⊎ (c ≤ s) → take (min s c) xs ++ take (s - c) ys ≡ take s (xs ++ ys)
+take-both s c xs ys long (inl small) =
+    let least : min s c ≡ s = omega arith in
+    let none : s - c ≡ 0 = omega arith in
+    ap (λ n. take n xs ++ take (s - c) ys) least ∙ ap (λ n. take s xs ++ take n ys) none ∙ append-nil (take s xs) ∙ sym (take-append-le s xs ys (omega arith))
+take-both s c xs ys long (inr large) =
+    let least : min s c ≡ c = omega arith in
+    let place : s ≡ length xs + (s - c) = omega arith in
+    ap (λ n. take n xs ++ take (s - c) ys) least ∙ ap (λ zs. zs ++ take (s - c) ys) (take_all c xs (omega arith)) ∙ sym (ap (λ n. take n (xs ++ ys)) place ∙ take-append-add xs ys (s - c))
+
+length-shown : (c v : ℕ) (b : List ℕ) → length b ≡ c → length (take v b ++ replicate (c - v) 0) ≡ c
+length-shown c v b long = omega (arith, length-append (take v b) (replicate (c - v) 0), length-take v b, length-replicate {A = ℕ} (c - v) 0, long)
+
+no_pieces : (s c v : ℕ) → ◌≡◌ {A = List ℕ} [] (take s (take v [] ++ replicate (0 * c - v) 0))
+no_pieces s c v =
+    let none : 0 * c - v ≡ 0 = omega arith in
+    let empty : List ℕ = [] in
+    sym (ap (λ n. take s (take v empty ++ replicate n 0)) none ∙ ap (λ xs. take s (xs ++ empty)) (take_all v empty (omega arith)) ∙ take_all s empty (omega arith))
+
+-- the pieces of cells are what they show, up to the size
+pub pieces-shown : (f : ℕ → List ℕ) (c n s v : ℕ) (cells : List (Option ℕ)) → ((k : ℕ) → k < n → length (f k) ≡ c) → are_cells true n cells ≡ true
+    → pieces c s v (map_cells f cells) ≡ take s (shown_cells c v (map_cells f cells))
+unfolding pieces shown_cells cells_bytes are_cells
+pieces-shown f c n s v [] long are = no_pieces s c v
+pieces-shown f c n s v (cell ∷ cells) long are =
+    let b = cell_bytes c (option_map f cell) in
+    let rest = cells_bytes c (map_cells f cells) in
+    let each = cell_long f c n cell (are_cells true n cells) long are in
     ap (λ bytes. take (min s c) (shown_cell c v (option_map f cell)) ++ bytes)
-    (pieces-whole f c n (s - c) (v - c) cells long (and-right (is_cell true n cell) (are_cells true n cells) are) (omega arith) (omega (arith, room)))
-    ∙ cell-law c s v (cell_bytes c (option_map f cell)) (cells_bytes c (map_cells f cells)) (cell_long f c n cell (are_cells true n cells) long are) within (cases_lt v c)
+    (pieces-shown f c n (s - c) (v - c) cells long (and-right (is_cell true n cell) (are_cells true n cells) are))
+    ∙ take-both s c (shown_cell c v (option_map f cell)) (shown_cells c (v - c) (map_cells f cells)) (length-shown c v b each) (cases_lt s c)
+    ∙ ap (take s) (sym (shown-split c v (length (map_cells f cells)) b rest each (cases_lt v c)))
 
-pub runs-whole : (f : ℕ → List ℕ) (c n s v : ℕ) (cells : List (Option ℕ)) → ((k : ℕ) → k < n → length (f k) ≡ c) → are_cells true n cells ≡ true → have_room c (length cells) s v ≡ true
+cut-shown : (s v m : ℕ) (bytes : List ℕ) → length bytes ≡ m → v ≤ s → s ≤ m → take s (take v bytes ++ replicate (m - v) 0) ≡ take v bytes ++ replicate (s - v) 0
+cut-shown s v m bytes long within room =
+    let front : length (take v bytes) ≡ v = length-take-le v bytes (omega arith) in
+    let place : s ≡ length (take v bytes) + (s - v) = omega arith in
+    ap (λ n. take n (take v bytes ++ replicate (m - v) 0)) place
+    ∙ take-append-add (take v bytes) (replicate (m - v) 0) (s - v)
+    ∙ ap (λ xs. take v bytes ++ xs) (take-replicate (s - v) (m - v) 0 (omega arith))
+
+runs-whole : (f : ℕ → List ℕ) (c n s v : ℕ) (cells : List (Option ℕ)) → ((k : ℕ) → k < n → length (f k) ≡ c) → are_cells true n cells ≡ true → have_room c (length cells) s v ≡ true
     → pieces c s v (map_cells f cells) ≡ runs_bytes c s v (map_cells f cells)
-unfolding runs_bytes
+unfolding runs_bytes shown_cells
 runs-whole f c n s v cells long are room =
-    pieces-whole f c n s v cells long are (leb-true v s (and-right (nat_le s (length cells * c)) (nat_le v s) room)) (leb-true s (length cells * c) (and-left (nat_le s (length cells * c)) (nat_le v s) room))
+    let bytes = cells_bytes c (map_cells f cells) in
+    let count : length (map_cells f cells) ≡ length cells = length-map cells (option_map f) in
+    pieces-shown f c n s v cells long are
+    ∙ ap (λ m. take s (take v bytes ++ replicate (m * c - v) 0)) count
+    ∙ cut-shown s v (length cells * c) bytes (length-cells f c n cells long are) (leb-true v s (and-right (nat_le s (length cells * c)) (nat_le v s) room)) (leb-true s (length cells * c) (and-left (nat_le s (length cells * c)) (nat_le v s) room))
 
 -- ---- the bytes of a gathered stream
 

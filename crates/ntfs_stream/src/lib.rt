@@ -3,7 +3,11 @@
 
 mod fault;
 mod read;
+mod row;
 mod rows;
 
 pub use fault::StreamFault;
 pub use read::{put_stream, read_stream};
+
+#[cfg(test)]
+mod tests;

@@ -1,15 +1,17 @@
 //! The bytes of a stream, put to a sink.
 
-ghost use Rattle.std.specs.Prelude.{◌≡◌, length};
+ghost use Rattle.std.specs.Prelude.{◌≡◌, Err, false, length};
 ghost use Rattle.ntfs_base.specs.Frames.{Copies, IfTold, Puts};
 ghost use Rattle.ntfs_boot.specs.Geometry.{IsOpened};
 ghost use Rattle.ntfs_stream.specs.Fault.{stream_origin};
+ghost use Rattle.ntfs_stream.specs.declared.fault.StreamFault.TheVariants.{NotPlain};
 ghost use Rattle.ntfs_stream.specs.StreamBytes.{IsBuffer, is_plain, stream_outcome};
 ghost use Rattle.ntfs_volume.specs.Opened.{HasClusters};
 ghost use Rattle.ntfs_volume.specs.Streams.{IsReadable};
 
 use crate::fault::StreamFault;
-use crate::rows::{Remaining, put_runs};
+use crate::row::Remaining;
+use crate::rows::put_runs;
 use ntfs_base::{Image, Sink};
 use ntfs_boot::Geometry;
 use ntfs_volume::{Stream, Volume};
@@ -26,7 +28,9 @@ fn is_plain(flags: u16) -> bool
 /// is read and nothing put.
 ///
 /// The bytes are those of a resident value, or of the clusters, with zeros in holes and from the initialised size on.
-/// It takes no memory, and afterwards the buffer holds anything.
+/// Clusters in a row are read at once and put at once, as many as the buffer has room for; a hole, and a cluster of which
+/// nothing is initialised, is never read. After a fault a prefix of the bytes was put. It takes no memory, and
+/// afterwards the buffer holds anything.
 pub fn put_stream<G: Image, K: Sink>(
     image: &mut G,
     geometry: &Geometry,
@@ -40,6 +44,8 @@ pub fn put_stream<G: Image, K: Sink>(
     ensures told { IfTold G.Image image.old (λ content.
         Puts stream_origin (stream_outcome geometry.now content stream.now.stream)
         (K.seen sink.old) result (K.seen sink.new)) }
+    ensures refuses { is_plain stream.now.stream.flags ≡ false → result ≡ Err (NotPlain stream.now.stream.flags) }
+    ensures untouched { is_plain stream.now.stream.flags ≡ false → (image.new ≡ image.old) × (sink.new ≡ sink.old) }
     ensures copies { Copies G.Image K.Sink stream_origin image.old image.new sink.old sink.new result }
 {
     let flags = stream.flags();
@@ -55,8 +61,7 @@ pub fn put_stream<G: Image, K: Sink>(
                     size: stream.size(),
                     valid: stream.valid(),
                 };
-                let cluster = &mut buffer[..geometry.cluster as usize];
-                put_runs(image, geometry, list.runs(), &mut rest, cluster, sink)
+                put_runs(image, geometry, list.runs(), &mut rest, buffer, sink)
             }
         },
     }
@@ -75,6 +80,9 @@ pub fn read_stream<G: Image, K: Sink>(
     ensures told { IfTold G.Image volume.old.image.now (λ content.
         Puts stream_origin (stream_outcome volume.old.table.geometry content stream.now.stream)
         (K.seen sink.old) result (K.seen sink.new)) }
+    ensures refuses { is_plain stream.now.stream.flags ≡ false → result ≡ Err (NotPlain stream.now.stream.flags) }
+    ensures untouched { is_plain stream.now.stream.flags ≡ false → (volume.new.image.now ≡ volume.old.image.now)
+        × (sink.new ≡ sink.old) }
     ensures same_reference { volume.new.image.ghost_name ≡ volume.old.image.ghost_name }
     ensures kept { volume.new.table ≡ volume.old.table }
     ensures copies { Copies G.Image K.Sink stream_origin

@@ -18,7 +18,6 @@ pub runs-init : goal.runs-init
 runs-init g c = record {
   valid = c.requires.rest;
   cells = c.requires.cells;
-  long = c.requires.buffer;
   seen = refl;
   counts = record { reads = omega arith; writes = omega arith };
   puts = record { failures = omega arith; wants = omega arith };
@@ -50,7 +49,6 @@ runs-preserved g c =
       valid = omega (arith, c.in_ok-put_run.ensures.rest.size, c.in_ok-put_run.ensures.rest.valid, c.runs.invariant.valid);
       cells = and-right (are_cells true c.args.geometry.now.clusters (row run.length run.lcn)) (are_cells true c.args.geometry.now.clusters (vcns (drop (c.runs.run-index + 1) c.args.runs.now)))
           (sym (are_cells-next true c.args.geometry.now.clusters c.args.runs.now c.runs.run-index c.runs-test.true) ∙ c.runs.invariant.cells);
-      long = c.put_run.auto.buffer ∙ c.runs.invariant.long;
       seen = c.in_ok-put_run.ensures.copies.seen ∙ c.runs.invariant.seen;
       counts = record { reads = omega (arith, c.in_ok-put_run.ensures.copies.counts.reads, c.runs.invariant.counts.reads); writes = omega (arith, c.in_ok-put_run.ensures.copies.counts.writes, c.runs.invariant.counts.writes) };
       puts = record { failures = omega (arith, c.in_ok-put_run.ensures.copies.puts.failures, c.runs.invariant.puts.failures); wants = omega (arith, c.in_ok-put_run.ensures.copies.puts.wants, c.runs.invariant.puts.wants) };

@@ -1,4 +1,4 @@
-use Rattle.std.proofs.Common.{◌≡◌, ◌≤◌, drop, length, true}
+use Rattle.std.proofs.Common.{◌≡◌, ◌≤◌, drop, true}
 use Rattle.ntfs_base.specs.Bytes.{cluster_at}
 use Rattle.ntfs_base.specs.Causes.{HaveNotFallen}
 use Rattle.ntfs_base.specs.Frames.{IfTold, SinkHasNotFallen}
@@ -11,7 +11,6 @@ abbrev pub invariant-runs : goal.invariant-runs
 invariant-runs g l = record {
   valid : l.rest.valid ≤ l.rest.size;
   cells : are_cells true l.geometry.clusters (vcns (drop l.run-index l.runs)) ≡ true;
-  long : length l.buffer ≡ l.geometry.cluster;
   seen : g.G.Image.seen l.image ≡ g.G.Image.seen l.initial.image;
   counts : HaveNotFallen (g.G.Image.faults l.initial.image) (g.G.Image.faults l.image);
   puts : SinkHasNotFallen (g.K.Sink.faults l.initial.sink) (g.K.Sink.faults l.sink);
