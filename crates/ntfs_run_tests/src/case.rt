@@ -133,7 +133,7 @@ fn texts(alloc: Global, words: &[&str]) -> Result<Vec<String>, AllocError> {
 }
 
 /// Runs words over a shelf and these sinks.
-fn run_words(
+pub fn run_words(
     alloc: Global,
     words: &[&str],
     shelf: &mut MemShelf,

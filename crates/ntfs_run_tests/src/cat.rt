@@ -17,13 +17,15 @@ const BLANK: Record = Record {
     attributes: &[],
 };
 
+const TEXT_DATA: Attribute = Attribute::Resident {
+    kind: DATA,
+    flags: 0,
+    value: b"text",
+};
+
 /// Record 20 with a text.
 const TEXT: Record = Record {
-    attributes: &[Attribute::Resident {
-        kind: DATA,
-        flags: 0,
-        value: b"text",
-    }],
+    attributes: &[TEXT_DATA],
     ..BLANK
 };
 
@@ -120,6 +122,19 @@ const FREE: Record = Record { flags: 0, ..TEXT };
 /// An extension record.
 const EXTENSION: Record = Record { base: 16, ..TEXT };
 
+/// A text that the attribute list doesn't name.
+const LISTED: Record = Record {
+    attributes: &[
+        Attribute::Resident {
+            kind: LIST,
+            flags: 0,
+            value: b"",
+        },
+        TEXT_DATA,
+    ],
+    ..BLANK
+};
+
 const NO_STREAM: Status = Status::NotFound {
     what: Missing::Stream,
 };
@@ -135,12 +150,12 @@ fn streams_are_missing(rt: HostRuntime) -> Result<(), Fail> {
         7,
         "ntfscat: not found: record 20\n",
     );
+    let no_stream = missing.with_refusal(NO_STREAM, "ntfscat: not found: stream\n");
     let cases = [
         missing.with_image(image.with_records(&[FIRST, FREE])),
         missing.with_image(image.with_records(&[FIRST, EXTENSION])),
-        missing
-            .with_image(image.with_records(&[FIRST, BLANK]))
-            .with_refusal(NO_STREAM, "ntfscat: not found: stream\n"),
+        no_stream.with_image(image.with_records(&[FIRST, BLANK])),
+        no_stream.with_image(image.with_records(&[FIRST, LISTED])),
     ];
     let base = bare_volume(alloc).ok_or("no image")?;
     all_answer(&rt, alloc, &base, &cases)
@@ -218,18 +233,28 @@ const LONG_SIZE: Record = Record {
     ..BLANK
 };
 
-const LISTED: Record = Record {
+/// An attribute list in which an entry is cut off.
+const CUT: Record = Record {
     attributes: &[
         Attribute::Resident {
             kind: LIST,
             flags: 0,
-            value: b"",
+            value: b"\x80\0\0\0\x20\0",
         },
+        TEXT_DATA,
+    ],
+    ..BLANK
+};
+
+/// A list of an unnamed stream that begins in record 21, which isn't in use.
+const STRAY: Record = Record {
+    attributes: &[
         Attribute::Resident {
-            kind: DATA,
+            kind: LIST,
             flags: 0,
-            value: b"text",
+            value: b"\x80\0\0\0\x20\0\0\x1A\0\0\0\0\0\0\0\0\x15\0\0\0\0\0\x01\0\0\0\0\0\0\0\0\0",
         },
+        TEXT_DATA,
     ],
     ..BLANK
 };
@@ -249,6 +274,10 @@ fn damaged_records_are_refused(rt: HostRuntime) -> Result<(), Fail> {
         4,
         "ntfscat: damaged: rule C4 record 20\n",
     );
+    let c11 = c4.with_refusal(
+        damage_of(Rule::C11, 20),
+        "ntfscat: damaged: rule C11 record 20\n",
+    );
     let cases = [
         // A check word is torn, the number is another one, more bytes are in use than there are.
         c4.with_image(text.with_bytes(&[(PLACE + 0x1FE, &[9])])),
@@ -264,11 +293,8 @@ fn damaged_records_are_refused(rt: HostRuntime) -> Result<(), Fail> {
                 damage_of(Rule::C12, 20),
                 "ntfscat: damaged: rule C12 record 20\n",
             ),
-        c4.with_image(image.with_records(&[FIRST, LISTED]))
-            .with_refusal(
-                damage_of(Rule::C11, 20),
-                "ntfscat: damaged: rule C11 record 20\n",
-            ),
+        c11.with_image(image.with_records(&[FIRST, CUT])),
+        c11.with_image(image.with_records(&[FIRST, STRAY])),
     ];
     let base = bare_volume(alloc).ok_or("no image")?;
     all_answer(&rt, alloc, &base, &cases)
@@ -347,9 +373,9 @@ fn a_record_0_with_a_list_has_a_map(rt: HostRuntime) -> Result<(), Fail> {
         Case::refuses(
             &["ntfscat", "-i", "0", "v"],
             image,
-            damage_of(Rule::C11, 0),
-            4,
-            "ntfscat: damaged: rule C11 record 0\n",
+            NO_STREAM,
+            7,
+            "ntfscat: not found: stream\n",
         ),
     ];
     let base = bare_volume(alloc).ok_or("no image")?;

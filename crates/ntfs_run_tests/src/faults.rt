@@ -1,7 +1,7 @@
 //! Calls that fail, one at a time: on the file, on the output, on the messages.
 use crate::case::{Case, Image, NO_FAULT, Plan, Ran, run_over};
 use crate::info::{INFO, LINES};
-use crate::volume::{BOOT, BOOT_LEN, image_of, small_volume, two_runs, zeros};
+use crate::volume::{BOOT, BOOT_LEN, between_zeros, image_of, small_volume, two_runs, zeros};
 use ntfs_base::{FailingCall, Leaves, Named};
 use ntfs_run::Status;
 use std::alloc::{AllocError, Global};
@@ -134,6 +134,25 @@ fn a_fault_of_the_image_is_a_read_fault(rt: HostRuntime) -> Result<(), Fail> {
     };
     let calls = each_read_fails(&rt, alloc, &volume, &case)?;
     assert!(rt; calls >= 5);
+    Ok(())
+}
+
+/// The same of a stream of two extents in two records: the boot sector, records 0, 28, 21 and 22 and two clusters are
+/// read.
+#[test]
+fn a_fault_of_the_image_of_a_listed_stream_is_a_read_fault(rt: HostRuntime) -> Result<(), Fail> {
+    let alloc = rt.alloc();
+    let made = run_over(alloc, &MAKE, None, NO_FAULT)?;
+    let volume = made.shelf.content("v").ok_or("no file")?;
+    let want = between_zeros(alloc, 21, [0, 2048, 0])?;
+    let case = Case {
+        words: &["ntfscat", "-i", "21", "v"],
+        output: &want,
+        line: "ntfscat: read fault\n",
+        ..READ_FAULT
+    };
+    let calls = each_read_fails(&rt, alloc, volume, &case)?;
+    assert!(rt; calls >= 8);
     Ok(())
 }
 

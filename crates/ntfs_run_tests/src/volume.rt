@@ -119,6 +119,22 @@ pub fn zeros(alloc: Global, len: usize) -> Result<Vec<u8>, AllocError>
     Ok(bytes)
 }
 
+/// So many zeros, so many bytes of which the first is this and each one more than the one before, modulo 256, and so
+/// many zeros again.
+pub fn between_zeros(alloc: Global, first: u8, counts: [usize; 3]) -> Result<Vec<u8>, AllocError> {
+    let [before, count, behind] = counts;
+    let mut bytes = zeros(alloc, before)?;
+    let mut next = first;
+    for _ in 0..count {
+        bytes.push(next)?;
+        next = next.wrapping_add(1);
+    }
+    for _ in 0..behind {
+        bytes.push(0)?;
+    }
+    Ok(bytes)
+}
+
 /// Puts bytes at a place of an image, where it has that place.
 fn put(image: &mut [u8], place: usize, bytes: &[u8]) -> Option<()> {
     if place > image.len() || bytes.len() > image.len() - place {

@@ -3,6 +3,7 @@
 ghost use Rattle.std.specs.Borrow.{sem};
 ghost use Rattle.std.specs.Prelude.{◌≡◌, length, slice_get, IfOk};
 ghost use Rattle.ntfs_base.specs.Bytes.{cluster_at};
+ghost use Rattle.ntfs_base.specs.Causes.{HaveNotFallen};
 ghost use Rattle.ntfs_base.specs.Frames.{Gives, IfTold, OnlyReads};
 ghost use Rattle.ntfs_volume.specs.Fault.{volume_origin};
 ghost use Rattle.ntfs_volume.specs.Lending.{LendsImage};
@@ -34,6 +35,7 @@ pub fn open_volume<'a, G: Image>(
         Gives volume_origin (λ volume. volume.table) (opened_of content) result) }
     ensures same_reference { IfOk result (λ volume. volume.image.ghost_name ≡ image.entry.ghost_name) }
     ensures seen { IfOk result (λ volume. G.seen volume.image.now ≡ G.seen image.old) }
+    ensures counts { IfOk result (λ volume. HaveNotFallen (G.faults image.old) (G.faults volume.image.now)) }
     ensures held { IfOk result (λ volume. HasClusters (G.seen image.old).size volume.table) }
 {
     let table = read_table(alloc, image)?;
