@@ -1,0 +1,3 @@
+pub mod Respelt
+pub mod Edits
+pub mod Steps
