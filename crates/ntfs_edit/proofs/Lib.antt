@@ -6,3 +6,6 @@ pub mod CallLemmas
 pub mod RefillLemmas
 pub mod AttributeLemmas
 pub mod ChangedLemmas
+pub mod AgainLemmas
+pub mod TwiceLemmas
+pub mod RowLemmas

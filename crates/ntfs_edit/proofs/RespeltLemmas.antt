@@ -14,32 +14,24 @@ use Rattle.ntfs_record.specs.Header.{head_of, layout_of}
 use Rattle.ntfs_record.specs.Attribute.{end_kind}
 use Rattle.ntfs_record.specs.Parsing.{raws_of, record_of, parse_of, IsAccepted}
 use Rattle.ntfs_record.specs.IsRecord.{IsRecord, IsSoundHeader}
-use Rattle.ntfs_record.specs.Spelling.{AllRaw, IsSpelling, attributes_end}
+use Rattle.ntfs_record.specs.Spelling.{IsSpelling, attributes_end}
 use Rattle.ntfs_record.proofs.RecordLemmas.{record_from}
 use Rattle.ntfs_record.proofs.SpellingLemmas.{parses-spelled, spelled-is}
-use Rattle.ntfs_edit.specs.Respelt.{tail_length, tail_of, need_of, respelling, respelt, respelt_record}
+use Rattle.ntfs_edit.specs.Respelt.{tail_length, tail_of, need_of, respelling, respelt, respelt_record, IsChange}
 use Rattle.ntfs_edit.proofs.PartsLemmas.{accepted-record, tail-long}
 
--- what a change of a record's attributes asks: the old record is right, its first attribute stands behind the whole
--- header, the new attributes are sound, and the record has room for them
-pub record IsChange (bytes : List ℕ) (raws : List (List ℕ)) : Type 0 where
-  pub accepted : IsAccepted bytes
-  pub first : 0x30 ≤ first_attribute_of bytes
-  pub all : AllRaw raws
-  pub room : need_of bytes raws ≤ length bytes
-
 -- what the old record gives
-record Old (bytes : List ℕ) : Type 0 where
-  header : IsSoundHeader bytes
-  within : first_attribute_of bytes ≤ length bytes
-  used : in_use_of bytes ≤ length bytes
-  last : attributes_end bytes + 4 ≤ in_use_of bytes
-  ends : kind_at (attributes_end bytes) bytes ≡ end_kind
+pub record Old (bytes : List ℕ) : Type 0 where
+  pub header : IsSoundHeader bytes
+  pub within : first_attribute_of bytes ≤ length bytes
+  pub used : in_use_of bytes ≤ length bytes
+  pub last : attributes_end bytes + 4 ≤ in_use_of bytes
+  pub ends : kind_at (attributes_end bytes) bytes ≡ end_kind
 
 kind-behind : (n : ℕ) (bytes : List ℕ) → kind_at 0 (drop n bytes) ≡ kind_at n bytes
 kind-behind n bytes = number_at-drop 4 0 n bytes ∙ ap (λ p. number_at 4 p bytes) (omega arith)
 
-old : (bytes : List ℕ) → IsAccepted bytes → Old bytes
+pub old : (bytes : List ℕ) → IsAccepted bytes → Old bytes
 old bytes is =
     let r = accepted-record bytes is in
     let s = parses-spelled bytes (record_of bytes) r in
@@ -60,13 +52,13 @@ enough bytes last = omega arith
 
 -- ---- the new front
 
-abbrev new_front : List ℕ → List (List ℕ) → List ℕ
+abbrev pub new_front : List ℕ → List (List ℕ) → List ℕ
 new_front bytes raws = overwrite 0x18 (little_bytes 4 (need_of bytes raws)) (take (first_attribute_of bytes) bytes)
 
 abbrev behind : List ℕ → List (List ℕ) → List ℕ
 behind bytes raws = concat raws ++ (tail_of bytes ++ drop (need_of bytes raws) bytes)
 
-front-long : (bytes : List ℕ) (raws : List (List ℕ)) → first_attribute_of bytes ≤ length bytes
+pub front-long : (bytes : List ℕ) (raws : List (List ℕ)) → first_attribute_of bytes ≤ length bytes
     → 0x28 ≤ first_attribute_of bytes → length (new_front bytes raws) ≡ first_attribute_of bytes
 front-long bytes raws within header =
     let four : length (little_bytes 4 (need_of bytes raws)) ≡ 4 = length-bytes_low_first 0 4 (need_of bytes raws) in
@@ -74,7 +66,7 @@ front-long bytes raws within header =
     length-overwrite 0x18 (little_bytes 4 (need_of bytes raws)) (take (first_attribute_of bytes) bytes) (omega arith) ∙ long
 
 -- a number before the bytes in use, or behind them, is the old one
-number-low : (n k : ℕ) (bytes : List ℕ) (raws : List (List ℕ)) → first_attribute_of bytes ≤ length bytes
+pub number-low : (n k : ℕ) (bytes : List ℕ) (raws : List (List ℕ)) → first_attribute_of bytes ≤ length bytes
     → 0x28 ≤ first_attribute_of bytes → k + n ≤ 0x18
     → number_at n k (new_front bytes raws ++ behind bytes raws) ≡ number_at n k bytes
 number-low n k bytes raws within header low =
@@ -95,7 +87,7 @@ number-high n k bytes raws within header high inside =
     ∙ number-after n k 0x18 (little_bytes 4 (need_of bytes raws)) (take (first_attribute_of bytes) bytes) (omega arith) (omega arith)
     ∙ number_at-take n k (first_attribute_of bytes) bytes inside
 
-number-used : (bytes : List ℕ) (raws : List (List ℕ)) → first_attribute_of bytes ≤ length bytes
+pub number-used : (bytes : List ℕ) (raws : List (List ℕ)) → first_attribute_of bytes ≤ length bytes
     → 0x28 ≤ first_attribute_of bytes → need_of bytes raws < 2 ^ 32
     → in_use_of (new_front bytes raws ++ behind bytes raws) ≡ need_of bytes raws
 number-used bytes raws within header small =
@@ -144,13 +136,13 @@ magic-still bytes raws within header =
     ∙ take-take 4 (first_attribute_of bytes) bytes (omega arith)
 
 -- what the header says but for the bytes in use
-record SameHeader (bytes others : List ℕ) : Type 0 where
-  array_offset_is : array_offset others ≡ array_offset bytes
-  array_count_is : array_count others ≡ array_count bytes
-  first_is : first_attribute_of others ≡ first_attribute_of bytes
-  allocated_is : allocated_of others ≡ allocated_of bytes
+pub record SameHeader (bytes others : List ℕ) : Type 0 where
+  pub array_offset_is : array_offset others ≡ array_offset bytes
+  pub array_count_is : array_count others ≡ array_count bytes
+  pub first_is : first_attribute_of others ≡ first_attribute_of bytes
+  pub allocated_is : allocated_of others ≡ allocated_of bytes
 
-same-header : (bytes : List ℕ) (raws : List (List ℕ)) → first_attribute_of bytes ≤ length bytes
+pub same-header : (bytes : List ℕ) (raws : List (List ℕ)) → first_attribute_of bytes ≤ length bytes
     → 0x28 ≤ first_attribute_of bytes → SameHeader bytes (new_front bytes raws ++ behind bytes raws)
 same-header bytes raws within header = record {
   array_offset_is = offset_number (new_front bytes raws ++ behind bytes raws)
@@ -161,7 +153,7 @@ same-header bytes raws within header = record {
   allocated_is = number-high 4 0x1C bytes raws within header (omega arith) (omega arith);
 }
 
-change-spells : (bytes : List ℕ) (raws : List (List ℕ)) → IsChange bytes raws → IsSpelling (respelling bytes raws)
+pub change-spells : (bytes : List ℕ) (raws : List (List ℕ)) → IsChange bytes raws → IsSpelling (respelling bytes raws)
 unfolding respelt with_in_use need_of
 change-spells bytes raws is =
     let o = old bytes is.accepted in

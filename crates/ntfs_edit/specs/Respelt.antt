@@ -7,7 +7,7 @@ use Rattle.ntfs_base.specs.Bytes.{piece_at}
 use Rattle.ntfs_record.specs.FileRecord.{FileRecord}
 use Rattle.ntfs_record.specs.Layout.{first_attribute_of, in_use_of, with_in_use}
 use Rattle.ntfs_record.specs.Header.{head_of, layout_of}
-use Rattle.ntfs_record.specs.Parsing.{parse_of}
+use Rattle.ntfs_record.specs.Parsing.{parse_of, IsAccepted}
 use Rattle.ntfs_record.specs.Spelling.{AllRaw, Spelling, spell, attributes_end}
 use Rattle.ntfs_edit.specs.declared.room.NoRoom.{NoRoom}
 
@@ -43,6 +43,14 @@ respelt_record bytes raws = record {
   layout = record (layout_of bytes) { in_use = need_of bytes raws };
   raws = raws;
 }
+
+-- what a change of a record's attributes asks: the old record is right, its first attribute stands behind the whole
+-- header, the new attributes are sound, and the record has room for them
+pub record IsChange (bytes : List ℕ) (raws : List (List ℕ)) : Type 0 where
+  pub accepted : IsAccepted bytes
+  pub first : 0x30 ≤ first_attribute_of bytes
+  pub all : AllRaw raws
+  pub room : need_of bytes raws ≤ length bytes
 
 -- the new bytes parse to the old record with these attributes, where those are sound and the first stands behind the
 -- header's last field

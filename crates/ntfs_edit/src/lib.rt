@@ -3,6 +3,7 @@
 #![tactic(auto)]
 
 mod edits;
+pub mod laws;
 mod room;
 mod steps;
 
