@@ -1,0 +1,4 @@
+pub mod Respelt
+pub mod Edits
+pub mod Rows
+pub mod Steps
