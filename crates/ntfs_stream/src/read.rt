@@ -3,7 +3,7 @@
 ghost use Rattle.std.specs.Prelude.{◌≡◌, Err, false, length};
 ghost use Rattle.ntfs_base.specs.Frames.{Copies, IfTold, Puts};
 ghost use Rattle.ntfs_boot.specs.Geometry.{IsOpened};
-ghost use Rattle.ntfs_stream.specs.Fault.{stream_origin};
+ghost use Rattle.ntfs_stream.specs.Fault.{WantsBySink, stream_origin};
 ghost use Rattle.ntfs_stream.specs.declared.fault.StreamFault.TheVariants.{NotPlain};
 ghost use Rattle.ntfs_stream.specs.StreamBytes.{IsBuffer, is_plain, stream_outcome};
 ghost use Rattle.ntfs_volume.specs.Opened.{HasClusters};
@@ -47,6 +47,7 @@ pub fn put_stream<G: Image, K: Sink>(
     ensures refuses { is_plain stream.now.stream.flags ≡ false → result ≡ Err (NotPlain stream.now.stream.flags) }
     ensures untouched { is_plain stream.now.stream.flags ≡ false → (image.new ≡ image.old) × (sink.new ≡ sink.old) }
     ensures copies { Copies G.Image K.Sink stream_origin image.old image.new sink.old sink.new result }
+    ensures wants { WantsBySink result (K.faults sink.old) (K.faults sink.new) }
 {
     let flags = stream.flags();
     if !is_plain(flags) {
@@ -87,6 +88,7 @@ pub fn read_stream<G: Image, K: Sink>(
     ensures kept { volume.new.table ≡ volume.old.table }
     ensures copies { Copies G.Image K.Sink stream_origin
         volume.old.image.now volume.new.image.now sink.old sink.new result }
+    ensures wants { WantsBySink result (K.faults sink.old) (K.faults sink.new) }
 {
     put_stream(
         &mut *volume.image,
