@@ -28,8 +28,8 @@ fn is_plain(flags: u16) -> bool
 /// is read and nothing put.
 ///
 /// The bytes are those of a resident value, or of the clusters, with zeros in holes and from the initialised size on.
-/// Clusters in a row are read at once and put at once, as many as the buffer has room for; a hole, and a cluster of which
-/// nothing is initialised, is never read. After a fault a prefix of the bytes was put. It takes no memory, and
+/// Clusters in a row are read at once and put at once, as many as the buffer has room for; a hole, and a cluster of
+/// which nothing is initialised, is never read. After a fault a prefix of the bytes was put. It takes no memory, and
 /// afterwards the buffer holds anything.
 pub fn put_stream<G: Image, K: Sink>(
     image: &mut G,

@@ -15,7 +15,8 @@ use ntfs_base::{Image, Sink};
 use ntfs_boot::Geometry;
 use ntfs_runs::Run;
 
-/// Puts the bytes of a run as far as bytes of the stream remain, by rows of as many clusters as the buffer has room for.
+/// Puts the bytes of a run as far as bytes of the stream remain, by rows of as many clusters as the buffer has room
+/// for.
 fn put_run<G: Image, K: Sink>(
     image: &mut G,
     geometry: &Geometry,
