@@ -103,7 +103,8 @@ abbrev pub table_listing : Geometry → (ℕ → List ℕ) → FileRecord → Re
 table_listing g f first = listing_in g.cluster (filled_attributes g.clusters f (attributes_of first))
 
 -- the clusters of all extents that a list tells, from those of the first on
-unfoldable pub clusters_by : Geometry → (ℕ → List ℕ) → ℕ → FileRecord → List ℕ → RecordListing → Result (List ℕ) VolumeFault
+unfoldable pub clusters_by : Geometry → (ℕ → List ℕ) → ℕ → FileRecord → List ℕ → RecordListing
+    → Result (List ℕ) VolumeFault
 clusters_by g f valid first known listing = do
   _ ← must listing.is_good (no_map 0)
   further g f valid first known (filter is_further listing.entries)
