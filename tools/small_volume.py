@@ -11,7 +11,6 @@ from typing import NamedTuple
 
 sys.path.insert(0, str(pathlib.Path(__file__).resolve().parent.parent / "bench"))
 
-from cat import record  # noqa: E402
 from make_reference import extent, resident  # noqa: E402
 
 DATA = 0x80
@@ -57,6 +56,14 @@ def attribute(volume, stream):
         return resident(DATA, stream).raw
     allocated = volume.cluster * sum(count for _, count in stream.runs)
     return extent(list(stream.runs), (allocated, stream.size, stream.valid)).raw
+
+
+def record(number, attribute):
+    """A file record in use with one attribute."""
+    head = struct.pack("<4sHHQHHHHIIQHHI", b"FILE", 0x30, 3, 0, 1, 1, 0x38, 1, 0x38 + len(attribute) + 8, RECORD, 0, 1, 0, number)
+    block = bytearray((head + struct.pack("<H6x", 1) + attribute + b"\xff\xff\xff\xff\0\0\0\0").ljust(RECORD, b"\0"))
+    block[0x1FE:0x200] = block[0x3FE:0x400] = b"\x01\0"
+    return bytes(block)
 
 
 def boot(volume):
