@@ -1,10 +1,7 @@
 -- Answers that a definition gives, and their expected value in other words.
 use Rattle.std.proofs.Common.{◌≡◌, List, ℕ, sym, subst, Result, Ok, Err}
-use Rattle.ntfs_base.specs.Frames.{Origin, IsSettled, Gives, Puts}
+use Rattle.ntfs_base.specs.Frames.{Origin, IsSettled, Puts}
 use Rattle.ntfs_base.specs.Sink.{SinkState}
-
-pub gives_by : {T U E : Type 0} (origin : E → Origin) (view : T → U) (a b : Result U E) (result : Result T E) → a ≡ b → Gives origin view b result → Gives origin view a result
-gives_by {U = U} {E = E} origin view a b result is = subst (λ (e : Result U E). Gives origin view e result) (sym is)
 
 pub puts_by : {E : Type 0} (origin : E → Origin) (a b : Result (List ℕ) E) (old : SinkState) (result : Result (Unit {0}) E) (new : SinkState) → a ≡ b → Puts origin b old result new → Puts origin a old result new
 puts_by {E = E} origin a b old result new is = subst (λ (e : Result (List ℕ) E). Puts origin e old result new) (sym is)

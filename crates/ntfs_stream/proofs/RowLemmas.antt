@@ -1,5 +1,5 @@
 -- Rows: some cells of a run, read at once.
-use Rattle.std.proofs.Common.{◌≡◌, ◌≤◌, ◌<◌, ◌+◌, ◌-◌, ◌*◌, ◌/◌, ◌%◌, ◌^◌, ◌&&◌, ℕ, zero, suc, List, ◌∷◌, ◌++◌, length, take, drop, min, refl, sym, ap, ◌∙◌, arith, slice_range, length-append, true, Option, Some, None}
+use Rattle.std.proofs.Common.{◌≡◌, ◌≤◌, ◌<◌, ◌+◌, ◌-◌, ◌*◌, ◌/◌, ◌%◌, ◌^◌, ◌&&◌, ℕ, zero, suc, List, ◌∷◌, ◌++◌, length, take, drop, min, refl, sym, ap, ◌∙◌, subst, arith, slice_range, length-append, true, Option, Some, None}
 use Rattle.std.specs.Prelude.{replicate, IfSome}
 use Rattle.std.specs.Int.{div_ceil}
 use Rattle.std.specs.Option.{option_map}
@@ -54,8 +54,18 @@ pub row-end : (n length k : ℕ) (cell : Option ℕ) → are_cells true n (row l
 row-end n length k None are some within small = tt
 row-end n length k (Some l) are some within small = let below = row-below n l length are some in omega (arith, below, within, small)
 
-pub row-inside : (l k n c size : ℕ) → l + k ≤ n → n * c ≤ size → l * c + k * c ≤ size
+row-inside : (l k n c size : ℕ) → l + k ≤ n → n * c ≤ size → l * c + k * c ≤ size
 row-inside l k n c size within held = let all : c * (l + k) ≤ c * n = mul-le-mul_left c within in omega (arith, all, held)
+
+some-clusters : (v k c : ℕ) → 0 < min v (k * c) → 0 < k
+some-clusters v zero c some = let none : 0 * c ≡ 0 = omega arith in absurd (omega (arith, none, some))
+some-clusters v (suc k) c some = omega arith
+
+-- a row with initialised bytes lies in an image that has all clusters
+pub row-held : (n c size k l v from len : ℕ) (cell : Option ℕ) → cell ≡ Some l → are_cells true n (row k cell) ≡ true → n * c ≤ size → len ≡ k * c → from ≡ min v len → 0 < from → l * c + k * c ≤ size
+row-held n c size k l v from len cell is are held long least some =
+    let clusters = some-clusters v k c (omega (arith, long, least, some)) in
+    row-inside l k n c size (row-below n l k (subst (λ (o : Option ℕ). are_cells true n (row k o) ≡ true) is are) clusters) held
 
 -- ---- the bytes of a row
 
@@ -127,11 +137,6 @@ row-put f c n s v k m cell buffer each are is least =
 -- whole clusters
 pub multiple-within : (v c k end : ℕ) → v ≤ k * c → end % c ≡ 0 → end < v + c → 0 < c → end ≤ k * c
 multiple-within v c k end within whole less some = grind arith
-
--- a row with bytes has clusters
-pub some-clusters : (v k c : ℕ) → 0 < min v (k * c) → 0 < k
-some-clusters v zero c some = let none : 0 * c ≡ 0 = omega arith in absurd (omega (arith, none, some))
-some-clusters v (suc k) c some = omega arith
 
 pub clusters-small : (n c : ℕ) → n ≤ 4294967296 → c ≤ 65536 → n * c ≤ 281474976710656
 clusters-small n c few small = let all : c * n ≤ c * 4294967296 = mul-le-mul_left c few in omega (arith, all, small)

@@ -1,12 +1,10 @@
 -- The bytes of a stream, cell by cell.
-use Rattle.std.proofs.Common.{◌≡◌, ◌≤◌, ◌<◌, ◌+◌, ◌-◌, ◌*◌, ◌&&◌, ℕ, suc, List, [], ◌∷◌, ◌++◌, length, take, min, refl, sym, ap, ◌∙◌, subst, arith, append_assoc, length-append, Bool, true, false, Option, Some, None, nat_lt, Ok, Err, if◌then◌else◌}
+use Rattle.std.proofs.Common.{◌≡◌, ◌≤◌, ◌<◌, ◌+◌, ◌-◌, ◌*◌, ◌&&◌, ℕ, suc, List, [], ◌∷◌, ◌++◌, length, take, min, refl, sym, ap, ◌∙◌, arith, length-append, Bool, true, false, Option, Some, None, nat_le, nat_lt, Ok, Err, if◌then◌else◌}
 use Rattle.std.specs.Prelude.{replicate}
 use Rattle.std.specs.Option.{option_map}
-use Rattle.std.proofs.lemmas.List.{length-replicate, length-map, length-take, length-take-le, take_all, take-replicate, replicate-append-replicate, take-append-le, append-nil}
+use Rattle.std.proofs.lemmas.List.{length-replicate, length-map, length-take, places, same_lists}
 use Rattle.ntfs_base.specs.Bytes.{cluster_at}
-use Rattle.std.proofs.Common.{◌⊎◌, inl, inr, nat_le}
-use Rattle.std.proofs.Math.Seq.{take-append-add}
-use Rattle.std.proofs.lemmas.Bool.{cases_lt, leb-true, ltb-true}
+use Rattle.std.proofs.lemmas.Bool.{leb-true, ltb-true}
 use Rattle.ntfs_runs.specs.Cells.{are_cells, is_cell, map_cells}
 use Rattle.ntfs_boot.specs.declared.geometry.Geometry.{Geometry}
 use Rattle.ntfs_stream.specs.Putting.{pieces, shown_cell, shown_cells}
@@ -19,15 +17,7 @@ use Rattle.ntfs_stream.specs.StreamBytes.{bytes_of_stream, filled_stream, is_pla
 
 -- a hole is zeros
 pub hole-cell : (c v : ℕ) → shown_cell c v None ≡ replicate c 0
-hole-cell c v = by_size (cases_lt v c)
-  where
-    by_size : (v < c) ⊎ (c ≤ v) → shown_cell c v None ≡ replicate c 0
-    by_size (inl small) =
-        let whole : v + (c - v) ≡ c = omega arith in
-        ap (λ xs. xs ++ replicate (c - v) 0) (take-replicate v c 0 (omega arith)) ∙ replicate-append-replicate v (c - v) 0 ∙ ap (λ n. replicate n 0) whole
-    by_size (inr large) =
-        let none : c - v ≡ 0 = omega arith in
-        ap (λ n. take v (replicate c 0) ++ replicate n 0) none ∙ append-nil (take v (replicate c 0)) ∙ take_all v (replicate c 0) (omega (arith, length-replicate {A = ℕ} c 0))
+hole-cell c v = same_lists _ _ (grind (arith, places)) (λ k d h. grind (arith, places))
 
 cluster_end : (k n c : ℕ) → k < n → k * c + c ≤ n * c
 cluster_end k n c lt = grind arith
@@ -52,45 +42,19 @@ length-cells f c n (cell ∷ cells) long are =
     omega (arith, length-append (cell_bytes c (option_map f cell)) (cells_bytes c (map_cells f cells)), cell_long f c n cell (are_cells true n cells) long are, length-cells f c n cells long (and-right (is_cell true n cell) (are_cells true n cells) are))
 
 -- one cell and those behind it
-shown-split : (c v m : ℕ) (b rest : List ℕ) → length b ≡ c → (v < c) ⊎ (c ≤ v)
+shown-split : (c v m : ℕ) (b rest : List ℕ) → length b ≡ c
     → take v (b ++ rest) ++ replicate (suc m * c - v) 0 ≡ (take v b ++ replicate (c - v) 0) ++ (take (v - c) rest ++ replicate (m * c - (v - c)) 0)
-shown-split c v m b rest long (inr large) =
-    let place : v ≡ length b + (v - c) = omega arith in
-    let none : c - v ≡ 0 = omega arith in
-    let left : suc m * c - v ≡ m * c - (v - c) = omega arith in
-    let front : take v b ++ replicate (c - v) 0 ≡ b = ap (λ n. take v b ++ replicate n 0) none ∙ append-nil (take v b) ∙ take_all v b (omega arith) in
-    ap (λ n. take v (b ++ rest) ++ replicate n 0) left
-    ∙ ap (λ xs. xs ++ replicate (m * c - (v - c)) 0) (ap (λ n. take n (b ++ rest)) place ∙ take-append-add b rest (v - c))
-    ∙ append_assoc b (take (v - c) rest) (replicate (m * c - (v - c)) 0)
-    ∙ ap (λ xs. xs ++ (take (v - c) rest ++ replicate (m * c - (v - c)) 0)) (sym front)
-shown-split c v m b rest long (inl small) =
-    let none : v - c ≡ 0 = omega arith in
-    let left : m * c - (v - c) ≡ m * c = omega arith in
-    let all : (c - v) + m * c ≡ suc m * c - v = omega arith in
-    let behind : take (v - c) rest ++ replicate (m * c - (v - c)) 0 ≡ replicate (m * c) 0 = ap (λ n. take n rest ++ replicate (m * c - (v - c)) 0) none ∙ ap (λ n. replicate n 0) left in
-    ap (λ xs. xs ++ replicate (suc m * c - v) 0) (take-append-le v b rest (omega arith))
-    ∙ ap (λ xs. take v b ++ xs) (ap (λ n. replicate n 0) (sym all) ∙ sym (replicate-append-replicate (c - v) (m * c) 0))
-    ∙ sym (append_assoc (take v b) (replicate (c - v) 0) (replicate (m * c) 0))
-    ∙ ap (λ xs. (take v b ++ replicate (c - v) 0) ++ xs) (sym behind)
+shown-split c v m b rest long = same_lists _ _ (grind (arith, places)) (λ k d h. grind (arith, places))
 
-take-both : (s c : ℕ) (xs ys : List ℕ) → length xs ≡ c → (s < c) ⊎ (c ≤ s) → take (min s c) xs ++ take (s - c) ys ≡ take s (xs ++ ys)
-take-both s c xs ys long (inl small) =
-    let least : min s c ≡ s = omega arith in
-    let none : s - c ≡ 0 = omega arith in
-    ap (λ n. take n xs ++ take (s - c) ys) least ∙ ap (λ n. take s xs ++ take n ys) none ∙ append-nil (take s xs) ∙ sym (take-append-le s xs ys (omega arith))
-take-both s c xs ys long (inr large) =
-    let least : min s c ≡ c = omega arith in
-    let place : s ≡ length xs + (s - c) = omega arith in
-    ap (λ n. take n xs ++ take (s - c) ys) least ∙ ap (λ zs. zs ++ take (s - c) ys) (take_all c xs (omega arith)) ∙ sym (ap (λ n. take n (xs ++ ys)) place ∙ take-append-add xs ys (s - c))
+-- bytes of two lists in a row
+take-both : (s c : ℕ) (xs ys : List ℕ) → length xs ≡ c → take (min s c) xs ++ take (s - c) ys ≡ take s (xs ++ ys)
+take-both s c xs ys long = same_lists _ _ (grind (arith, places)) (λ k d h. grind (arith, places))
 
 length-shown : (c v : ℕ) (b : List ℕ) → length b ≡ c → length (take v b ++ replicate (c - v) 0) ≡ c
 length-shown c v b long = omega (arith, length-append (take v b) (replicate (c - v) 0), length-take v b, length-replicate {A = ℕ} (c - v) 0, long)
 
 no_pieces : (s c v : ℕ) → ◌≡◌ {A = List ℕ} [] (take s (take v [] ++ replicate (0 * c - v) 0))
-no_pieces s c v =
-    let none : 0 * c - v ≡ 0 = omega arith in
-    let empty : List ℕ = [] in
-    sym (ap (λ n. take s (take v empty ++ replicate n 0)) none ∙ ap (λ xs. take s (xs ++ empty)) (take_all v empty (omega arith)) ∙ take_all s empty (omega arith))
+no_pieces s c v = same_lists _ _ (grind (arith, places)) (λ k d h. grind (arith, places))
 
 -- the pieces of cells are what they show, up to the size
 pub pieces-shown : (f : ℕ → List ℕ) (c n s v : ℕ) (cells : List (Option ℕ)) → ((k : ℕ) → k < n → length (f k) ≡ c) → are_cells true n cells ≡ true
@@ -103,16 +67,11 @@ pieces-shown f c n s v (cell ∷ cells) long are =
     let each = cell_long f c n cell (are_cells true n cells) long are in
     ap (λ bytes. take (min s c) (shown_cell c v (option_map f cell)) ++ bytes)
     (pieces-shown f c n (s - c) (v - c) cells long (and-right (is_cell true n cell) (are_cells true n cells) are))
-    ∙ take-both s c (shown_cell c v (option_map f cell)) (shown_cells c (v - c) (map_cells f cells)) (length-shown c v b each) (cases_lt s c)
-    ∙ ap (take s) (sym (shown-split c v (length (map_cells f cells)) b rest each (cases_lt v c)))
+    ∙ take-both s c (shown_cell c v (option_map f cell)) (shown_cells c (v - c) (map_cells f cells)) (length-shown c v b each)
+    ∙ ap (take s) (sym (shown-split c v (length (map_cells f cells)) b rest each))
 
 cut-shown : (s v m : ℕ) (bytes : List ℕ) → length bytes ≡ m → v ≤ s → s ≤ m → take s (take v bytes ++ replicate (m - v) 0) ≡ take v bytes ++ replicate (s - v) 0
-cut-shown s v m bytes long within room =
-    let front : length (take v bytes) ≡ v = length-take-le v bytes (omega arith) in
-    let place : s ≡ length (take v bytes) + (s - v) = omega arith in
-    ap (λ n. take n (take v bytes ++ replicate (m - v) 0)) place
-    ∙ take-append-add (take v bytes) (replicate (m - v) 0) (s - v)
-    ∙ ap (λ xs. take v bytes ++ xs) (take-replicate (s - v) (m - v) 0 (omega arith))
+cut-shown s v m bytes long within room = same_lists _ _ (grind (arith, places)) (λ k d h. grind (arith, places))
 
 runs-whole : (f : ℕ → List ℕ) (c n s v : ℕ) (cells : List (Option ℕ)) → ((k : ℕ) → k < n → length (f k) ≡ c) → are_cells true n cells ≡ true → have_room c (length cells) s v ≡ true
     → pieces c s v (map_cells f cells) ≡ runs_bytes c s v (map_cells f cells)
@@ -158,11 +117,3 @@ runs-outcome g content s cells plain is readable held =
     plain-given g content s plain
     ∙ rw runs.0 (ap Ok (sym (runs-whole f g.cluster g.clusters s.size s.valid s.cells (clusters-long content g.cluster g.clusters held) readable.cells (readable.room runs.0))))
     ∙ ap (λ cs. Ok (pieces g.cluster s.size s.valid (map_cells f cs))) runs.1
-
--- all cells of a stream with runs are on the volume
-pub runs-below : (g : Geometry) (s : Stream ℕ) (cells : List (Option ℕ)) → Some cells ≡ (if s.is_resident then None else Some s.cells) → IsReadable g s → are_cells true g.clusters cells ≡ true
-runs-below g s cells is readable = subst (λ (cs : List (Option ℕ)). are_cells true g.clusters cs ≡ true) (runs_of s.is_resident s.cells cells is).1 readable.cells
-
-pub runs-valid : (g : Geometry) (s : Stream ℕ) (cells : List (Option ℕ)) → Some cells ≡ (if s.is_resident then None else Some s.cells) → IsReadable g s → s.valid ≤ s.size
-runs-valid g s cells is readable =
-    leb-true s.valid s.size (and-right (nat_le s.size (length s.cells * g.cluster)) (nat_le s.valid s.size) (readable.room (runs_of s.is_resident s.cells cells is).0))

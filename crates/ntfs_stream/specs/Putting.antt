@@ -1,4 +1,4 @@
--- What is put of a stream, run by run. Where no source is named, the words are ours.
+-- What is put of a stream, run by run and row by row. The words are ours.
 use Rattle.std.specs.Prelude.{◌≡◌, ◌-◌, ◌*◌, ◌/◌, ℕ, List, [], ◌∷◌, ◌++◌, length, take, min, replicate, Option, Some, None}
 use Rattle.std.specs.Int.{div_ceil}
 use Rattle.ntfs_base.specs.Sink.{SinkState, after_put}

@@ -3,7 +3,7 @@
 ghost use Rattle.std.specs.Prelude.{◌≡◌, Err, false, length};
 ghost use Rattle.ntfs_base.specs.Frames.{Copies, IfTold, Puts};
 ghost use Rattle.ntfs_boot.specs.Geometry.{IsOpened};
-ghost use Rattle.ntfs_stream.specs.Fault.{stream_origin};
+ghost use Rattle.ntfs_stream.specs.Fault.{WantsBySink, stream_origin};
 ghost use Rattle.ntfs_stream.specs.declared.fault.StreamFault.TheVariants.{NotPlain};
 ghost use Rattle.ntfs_stream.specs.StreamBytes.{IsBuffer, is_plain, stream_outcome};
 ghost use Rattle.ntfs_volume.specs.Opened.{HasClusters};
@@ -28,8 +28,8 @@ fn is_plain(flags: u16) -> bool
 /// is read and nothing put.
 ///
 /// The bytes are those of a resident value, or of the clusters, with zeros in holes and from the initialised size on.
-/// Clusters in a row are read at once and put at once, as many as the buffer has room for; a hole, and a cluster of which
-/// nothing is initialised, is never read. After a fault a prefix of the bytes was put. It takes no memory, and
+/// Clusters in a row are read at once and put at once, as many as the buffer has room for; a hole, and a cluster of
+/// which nothing is initialised, is never read. After a fault a prefix of the bytes was put. It takes no memory, and
 /// afterwards the buffer holds anything.
 pub fn put_stream<G: Image, K: Sink>(
     image: &mut G,
@@ -47,6 +47,7 @@ pub fn put_stream<G: Image, K: Sink>(
     ensures refuses { is_plain stream.now.stream.flags ≡ false → result ≡ Err (NotPlain stream.now.stream.flags) }
     ensures untouched { is_plain stream.now.stream.flags ≡ false → (image.new ≡ image.old) × (sink.new ≡ sink.old) }
     ensures copies { Copies G.Image K.Sink stream_origin image.old image.new sink.old sink.new result }
+    ensures wants { WantsBySink result (K.faults sink.old) (K.faults sink.new) }
 {
     let flags = stream.flags();
     if !is_plain(flags) {
@@ -87,6 +88,7 @@ pub fn read_stream<G: Image, K: Sink>(
     ensures kept { volume.new.table ≡ volume.old.table }
     ensures copies { Copies G.Image K.Sink stream_origin
         volume.old.image.now volume.new.image.now sink.old sink.new result }
+    ensures wants { WantsBySink result (K.faults sink.old) (K.faults sink.new) }
 {
     put_stream(
         &mut *volume.image,

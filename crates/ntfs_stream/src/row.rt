@@ -1,13 +1,14 @@
 //! A row of clusters of a run, or of a hole, read at once and put at once.
 
 ghost use Rattle.std.specs.Int.{div_ceil, next_multiple_of};
-ghost use Rattle.std.specs.Prelude.{◌≡◌, ◌≤◌, ◌<◌, ◌^◌, ◌+◌, ◌-◌, ◌*◌, ◌/◌, ◌%◌, ◌++◌, Ok, true, length, min, take, replicate, IfSome};
+ghost use Rattle.std.specs.Prelude.{◌≡◌, ◌≤◌, ◌<◌, ◌^◌, ◌+◌, ◌-◌, ◌*◌, ◌/◌, ◌%◌, ◌++◌, Ok, true, length, min, take, replicate, IfErr, IfSome};
 ghost use Rattle.ntfs_base.specs.Bytes.{cluster_at};
 ghost use Rattle.ntfs_base.specs.Frames.{Copies, Gives, IfTold, OnlyReads, Puts};
 ghost use Rattle.ntfs_boot.specs.Geometry.{IsOpened};
 ghost use Rattle.ntfs_runs.specs.Cells.{are_cells, map_cells};
 ghost use Rattle.ntfs_runs.specs.Clusters.{behind, row};
-ghost use Rattle.ntfs_stream.specs.Fault.{stream_origin};
+ghost use Rattle.ntfs_stream.specs.Fault.{WantsBySink, stream_origin};
+ghost use Rattle.ntfs_stream.specs.declared.fault.StreamFault.TheVariants.{ReadFault};
 ghost use Rattle.ntfs_stream.specs.Putting.{HasNoBytes, pieces, row_length, shown_cells};
 
 use crate::fault::StreamFault;
@@ -101,6 +102,7 @@ fn read_row<G: Image>(
         (map_cells (cluster_at content geometry.now.cluster) (row part.now.length part.now.lcn)))) result) }
     ensures unread { HasNoBytes part.now.lcn valid → image.new ≡ image.old }
     ensures reads { OnlyReads G.Image stream_origin image.old image.new result }
+    ensures fails { IfErr result (λ fault. fault ≡ ReadFault) }
 {
     let valid = valid.min(buffer.len() as u64);
     match part.lcn {
@@ -133,6 +135,7 @@ pub(crate) fn put_row<G: Image, K: Sink>(
         (K.seen sink.old) result (K.seen sink.new)) }
     ensures unread { HasNoBytes part.now.lcn rest.valid → image.new ≡ image.old }
     ensures copies { Copies G.Image K.Sink stream_origin image.old image.new sink.old sink.new result }
+    ensures wants { WantsBySink result (K.faults sink.old) (K.faults sink.new) }
 {
     read_row(image, geometry, part, rest.valid, buffer)?;
     sink.put(&buffer[..rest.size.min(buffer.len() as u64) as usize])?;

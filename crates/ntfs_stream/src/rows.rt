@@ -6,7 +6,7 @@ ghost use Rattle.ntfs_base.specs.Frames.{Copies, IfTold, Puts};
 ghost use Rattle.ntfs_boot.specs.Geometry.{IsOpened};
 ghost use Rattle.ntfs_runs.specs.Cells.{are_cells, map_cells};
 ghost use Rattle.ntfs_runs.specs.Clusters.{row, vcns};
-ghost use Rattle.ntfs_stream.specs.Fault.{stream_origin};
+ghost use Rattle.ntfs_stream.specs.Fault.{WantsBySink, stream_origin};
 ghost use Rattle.ntfs_stream.specs.Putting.{IsLeftBehind, pieces};
 
 use crate::fault::StreamFault;
@@ -15,7 +15,8 @@ use ntfs_base::{Image, Sink};
 use ntfs_boot::Geometry;
 use ntfs_runs::Run;
 
-/// Puts the bytes of a run as far as bytes of the stream remain, by rows of as many clusters as the buffer has room for.
+/// Puts the bytes of a run as far as bytes of the stream remain, by rows of as many clusters as the buffer has room
+/// for.
 fn put_run<G: Image, K: Sink>(
     image: &mut G,
     geometry: &Geometry,
@@ -34,6 +35,7 @@ fn put_run<G: Image, K: Sink>(
         (K.seen sink.old) result (K.seen sink.new)) }
     ensures rest { OnOk result (IsLeftBehind geometry.now.cluster run.now.length rest.old rest.new) }
     ensures copies { Copies G.Image K.Sink stream_origin image.old image.new sink.old sink.new result }
+    ensures wants { WantsBySink result (K.faults sink.old) (K.faults sink.new) }
 {
     let cluster = u64::from(geometry.cluster);
     let mut left = *run;
@@ -72,6 +74,7 @@ pub(crate) fn put_runs<G: Image, K: Sink>(
         (map_cells (cluster_at content geometry.now.cluster) (vcns runs.now))))
         (K.seen sink.old) result (K.seen sink.new)) }
     ensures copies { Copies G.Image K.Sink stream_origin image.old image.new sink.old sink.new result }
+    ensures wants { WantsBySink result (K.faults sink.old) (K.faults sink.new) }
 {
     'runs: for run in runs {
         put_run(image, geometry, run, rest, buffer, sink)?;

@@ -1,12 +1,12 @@
-use Rattle.std.proofs.Common.{◌≡◌, ◌≤◌, ◌<◌, ◌+◌, ◌*◌, ◌-◌, ◌%◌, sym, ap, ◌∙◌, subst, ℕ, length, List, Option, Ok, arith, take, min, true, ◌++◌}
+use Rattle.std.proofs.Common.{◌≡◌, ◌≤◌, ◌<◌, ◌+◌, ◌*◌, ◌-◌, ◌%◌, sym, ap, ◌∙◌, subst, ℕ, length, List, Option, Ok, arith, take, min, ◌++◌}
 use Rattle.std.specs.Prelude.{replicate}
 use Rattle.std.proofs.lemmas.List.{length-take, length-take-le}
 use Rattle.ntfs_base.specs.Bytes.{cluster_at}
 use Rattle.ntfs_boot.specs.Geometry.{bytes_of_clusters}
-use Rattle.ntfs_runs.specs.Cells.{are_cells, map_cells}
+use Rattle.ntfs_runs.specs.Cells.{map_cells}
 use Rattle.ntfs_runs.specs.Clusters.{row}
 use Rattle.ntfs_stream.specs.Putting.{shown_cells}
-use Rattle.ntfs_stream.proofs.RowLemmas.{clusters-small, multiple-within, row-below, row-inside, shown-empty, shown-hole, shown-read, some-clusters}
+use Rattle.ntfs_stream.proofs.RowLemmas.{clusters-small, multiple-within, row-held, shown-empty, shown-hole, shown-read}
 use Rattle.ntfs_stream.proofs.StreamBytesLemmas.{clusters-long}
 use Rattle.ntfs_stream.proofs.row.read_row.Goals.{in_default-via-in-Some+else-valid-gt0, in_default-via-in_default}
 use Rattle.ntfs_stream.proofs.row.read_row.Goals as goal
@@ -14,9 +14,7 @@ use Rattle.ntfs_stream.proofs.row.read_row.Goals as goal
 pub overflow_mul-lcn : goal.overflow_mul-lcn
 overflow_mul-lcn g c =
     let k = c.args.geometry.now in
-    let some = some-clusters c.args.valid c.args.part.now.length k.cluster (omega (arith, c.min-valid.ensures, c.if-valid-gt0.true, c.requires.buffer)) in
-    let below = row-below k.clusters c.in-Some.lcn c.args.part.now.length (subst (λ (o : Option ℕ). are_cells true k.clusters (row c.args.part.now.length o) ≡ true) c.in-Some.is c.requires.cells) some in
-    let inside = row-inside c.in-Some.lcn c.args.part.now.length k.clusters k.cluster (bytes_of_clusters k) below (omega arith) in
+    let inside = row-held k.clusters k.cluster (bytes_of_clusters k) c.args.part.now.length c.in-Some.lcn c.args.valid c.min-valid.result (length c.args.buffer.now) c.args.part.now.lcn c.in-Some.is c.requires.cells (omega arith) c.requires.buffer c.min-valid.ensures c.if-valid-gt0.true in
     let small = clusters-small k.clusters k.cluster (omega (arith, c.requires.opened.good.most_clusters)) c.requires.opened.good.most_cluster in
     let same : c.in-Some.lcn * c.from-cluster.result ≡ c.in-Some.lcn * k.cluster = ap (λ n. c.in-Some.lcn * n) c.from-cluster.ensures in
     omega (arith, inside, small, same)
@@ -43,9 +41,7 @@ slice_bounds-read_at-end-in-Some g c =
 pub read_at-requires : goal.read_at-requires
 read_at-requires g c =
     let k = c.args.geometry.now in
-    let some = some-clusters c.args.valid c.args.part.now.length k.cluster (omega (arith, c.min-valid.ensures, c.if-valid-gt0.true, c.requires.buffer)) in
-    let below = row-below k.clusters c.in-Some.lcn c.args.part.now.length (subst (λ (o : Option ℕ). are_cells true k.clusters (row c.args.part.now.length o) ≡ true) c.in-Some.is c.requires.cells) some in
-    let inside = row-inside c.in-Some.lcn c.args.part.now.length k.clusters k.cluster (g.G.Image.seen c.args.image.now).size below c.requires.opened.held in
+    let inside = row-held k.clusters k.cluster (g.G.Image.seen c.args.image.now).size c.args.part.now.length c.in-Some.lcn c.args.valid c.min-valid.result (length c.args.buffer.now) c.args.part.now.lcn c.in-Some.is c.requires.cells c.requires.opened.held c.requires.buffer c.min-valid.ensures c.if-valid-gt0.true in
     let same : c.in-Some.lcn * c.from-cluster.result ≡ c.in-Some.lcn * k.cluster = ap (λ n. c.in-Some.lcn * n) c.from-cluster.ensures in
     let count = length-take c.read_length-end.result c.args.buffer.now in
     omega (arith, inside, same, count, c.requires.buffer)
@@ -54,10 +50,8 @@ pub returns-in_ok-read_at-in-Some-clause-gives : goal.returns-in_ok-read_at-in-S
 returns-in_ok-read_at-in-Some-clause-gives g c told =
     let k = c.args.geometry.now in
     let image = g.G.Image.seen c.args.image.now in
-    let some = some-clusters c.args.valid c.args.part.now.length k.cluster (omega (arith, c.min-valid.ensures, c.if-valid-gt0.true, c.requires.buffer)) in
-    let below = row-below k.clusters c.in-Some.lcn c.args.part.now.length (subst (λ (o : Option ℕ). are_cells true k.clusters (row c.args.part.now.length o) ≡ true) c.in-Some.is c.requires.cells) some in
     let long : length image.content ≡ image.size = g.met.G.Image.told_size c.args.image.now told in
-    let inside = row-inside c.in-Some.lcn c.args.part.now.length k.clusters k.cluster (length image.content) below (subst (λ (n : ℕ). bytes_of_clusters k ≤ n) (sym long) c.requires.opened.held) in
+    let inside = row-held k.clusters k.cluster (length image.content) c.args.part.now.length c.in-Some.lcn c.args.valid c.min-valid.result (length c.args.buffer.now) c.args.part.now.lcn c.in-Some.is c.requires.cells (subst (λ (n : ℕ). bytes_of_clusters k ≤ n) (sym long) c.requires.opened.held) c.requires.buffer c.min-valid.ensures c.if-valid-gt0.true in
     let end = read-within c.args.valid c.min-valid.result c.from-cluster.result k.cluster c.args.part.now.length (length c.args.buffer.now) c.read_length-end.result
     c.min-valid.ensures c.requires.buffer c.from-cluster.ensures c.read_length-end.ensures.whole c.read_length-end.ensures.less (omega (arith, c.requires.opened.good.least_cluster)) in
     ap Ok (subst (λ (o : Option ℕ). shown_cells k.cluster c.args.valid (map_cells (cluster_at image.content k.cluster) (row c.args.part.now.length o)) ≡ c.clear.new.buffer) (sym c.in-Some.is)
