@@ -13,6 +13,9 @@ use ntfs_show::cat_stream;
 use ntfs_volume::{Table, read_table};
 use std::alloc::Global;
 
+/// The type of $DATA.
+const DATA: u32 = 0x80;
+
 /// Puts the unnamed data stream of a record of the image of a name.
 pub fn cat<S: Shelf, O: Sink>(
     alloc: Global,
@@ -65,6 +68,6 @@ fn show_stream<G: Image, O: Sink>(
     ensures refusal { IfErr result CatRefuses }
     ensures flushed { OnOk result (O.is_flushed out.new ≡ true) }
 {
-    cat_stream(alloc, image, table, number, 0x80, &[], out)?;
+    cat_stream(alloc, image, table, number, DATA, &[], out)?;
     flush(out)
 }

@@ -66,8 +66,9 @@ fn put_gathered<G: Image, K: Sink>(
 /// Puts the bytes of the stream of a type and name of a record of the volume whose table is kept.
 ///
 /// The stream is gathered from whichever records hold its extents. Its bytes are those of a resident value, or of the
-/// clusters, with zeros in holes and from the initialised size on. They are put as they are read, and nothing is put
-/// before a refusal but a fault. It takes the memory that gathering takes, and 65,536 bytes.
+/// clusters, with zeros in holes and from the initialised size on. They are put as they are read: after a fault or want
+/// of memory a prefix of them was put, and after any other refusal nothing. It takes the memory that gathering takes,
+/// and then 65,536 bytes.
 pub fn cat_stream<G: Image, K: Sink>(
     alloc: Global,
     image: &mut G,
