@@ -188,8 +188,27 @@ fn listed(bytes: &mut [u8]) {
     end(bytes, 20, 168);
 }
 
+/// Record 22: a stream of two extents of its own.
+fn joined(bytes: &mut [u8]) {
+    begin(bytes, 22, 0);
+    let first = Told {
+        size: 1100,
+        valid: 1100,
+        ..ONE
+    };
+    runs(bytes, 22, 56, first);
+    let next = Told {
+        lowest: 1,
+        next: 2,
+        pairs: &[0x11, 0x01, 0x31, 0x00],
+        ..ONE
+    };
+    runs(bytes, 22, 136, next);
+    end(bytes, 22, 216);
+}
+
 /// Record 16 has a file name, an unnamed and a named stream; 17 has two runs, 18 a compressed stream, 21 an encrypted
-/// value; 19 has a list, and 20 an extent of it.
+/// value; 19 has a list, and 20 an extent of it; 22 has two extents and no list.
 fn volume(alloc: Global) -> Result<Vec<u8>, AllocError> {
     let mut bytes = empty(alloc)?;
     begin(&mut bytes, 16, 0);
@@ -211,6 +230,7 @@ fn volume(alloc: Global) -> Result<Vec<u8>, AllocError> {
     stream(&mut bytes, 17, TWO);
     stream(&mut bytes, 18, Told { flags: 1, ..ONE });
     listed(&mut bytes);
+    joined(&mut bytes);
     begin(&mut bytes, 21, 0);
     resident(&mut bytes, 21, 56, [0x80, 32, 4]);
     patch(&mut bytes, record_at(21) + 56 + 0x0C, &[0, 0x40]);
@@ -304,6 +324,7 @@ fn streams_are_put_by_type_and_name(rt: HostRuntime) -> Result<(), Fail> {
     let named = pieces(alloc, [900, 0, 100])?;
     let two = pieces(alloc, [1024, 6, 470])?;
     let listed = pieces(alloc, [900, 0, 600])?;
+    let joined = pieces(alloc, [1024, 76, 0])?;
     let cases = [
         (data(16), b"hello, ntfs\n".as_slice()),
         (
@@ -322,6 +343,7 @@ fn streams_are_put_by_type_and_name(rt: HostRuntime) -> Result<(), Fail> {
         ),
         (data(17), two.as_slice()),
         (data(19), listed.as_slice()),
+        (data(22), joined.as_slice()),
     ];
     for (asked, want) in cases {
         answers(&rt, alloc, &bytes, asked, Ok(()), want)?;
@@ -366,7 +388,7 @@ fn streams_are_refused(rt: HostRuntime) -> Result<(), Fail> {
             },
             NO_STREAM,
         ),
-        (data(22), no_record(22)),
+        (data(23), no_record(23)),
         (data(20), no_record(20)),
         (data(u64::MAX), no_record(u64::MAX)),
         (data(18), ShowFault::NotPlain { flags: 1 }),
@@ -381,21 +403,37 @@ fn streams_are_refused(rt: HostRuntime) -> Result<(), Fail> {
 #[test]
 fn damage_is_named_by_its_record(rt: HostRuntime) -> Result<(), Fail> {
     let alloc = rt.alloc();
-    // A torn base record and a torn extension record, an entry of length 0, an extension record that isn't in use,
-    // wrong pairs in it, and a size above the clusters' bytes.
-    let places = [
-        (record_at(19) + 510, 6, Rule::C4, 19),
-        (record_at(20) + 510, 6, Rule::C4, 20),
-        (record_at(19) + 84, 0, Rule::C11, 19),
-        (record_at(20) + 0x16, 0, Rule::C11, 19),
-        (record_at(20) + 88 + 72, 0x91, Rule::C7, 20),
-        (record_at(20) + 88 + 0x31, 9, Rule::C12, 19),
+    let cases: [(u64, usize, &[u8], Rule, u64); 9] = [
+        // A torn base record and a torn extension record, an entry of length 0, an extension record that isn't in use,
+        // wrong pairs in it, and a size above the clusters' bytes.
+        (19, record_at(19) + 510, &[6], Rule::C4, 19),
+        (19, record_at(20) + 510, &[6], Rule::C4, 20),
+        (19, record_at(19) + 84, &[0], Rule::C11, 19),
+        (19, record_at(20) + 0x16, &[0], Rule::C11, 19),
+        (19, record_at(20) + 88 + 72, &[0x91], Rule::C7, 20),
+        (19, record_at(20) + 88 + 0x31, &[9], Rule::C12, 19),
+        // Without a list: pairs that spell two VCNs for one, an extent from VCN 2 on, and one alone from VCN 1 on.
+        (22, record_at(22) + 136 + 73, &[2], Rule::C7, 22),
+        (
+            22,
+            record_at(22) + 136 + 0x10,
+            &[2, 0, 0, 0, 0, 0, 0, 0, 2],
+            Rule::C12,
+            22,
+        ),
+        (
+            17,
+            record_at(17) + 56 + 0x10,
+            &[1, 0, 0, 0, 0, 0, 0, 0, 2],
+            Rule::C12,
+            17,
+        ),
     ];
-    for (place, byte, rule, number) in places {
+    for (asked, place, text, rule, number) in cases {
         let mut bytes = volume(alloc)?;
-        patch(&mut bytes, place, &[byte]);
+        patch(&mut bytes, place, text);
         let fault = ShowFault::Damaged { rule, number };
-        answers(&rt, alloc, &bytes, data(19), Err(fault), b"")?;
+        answers(&rt, alloc, &bytes, data(asked), Err(fault), b"")?;
     }
     Ok(())
 }
