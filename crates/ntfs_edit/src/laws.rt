@@ -1,19 +1,20 @@
 //! Laws of the definitions. Each function does nothing, and its contract is the law.
 
 ghost use Rattle.std.specs.Prelude.{◌≡◌, ◌≤◌, ◌<◌, ◌+◌, ◌^◌, ◌++◌, ◌∷◌, ℕ, List, Option, Some, Ok, length, map};
-ghost use Rattle.std.specs.List.{concat, Contains};
+ghost use Rattle.std.specs.List.{concat, Contains, AllByRecursion};
 ghost use Rattle.ntfs_fixup.specs.Fixups.{HasWholeStrides, HasFront, refix_of};
 ghost use Rattle.ntfs_fixup.specs.declared.header.Magic.TheVariants.{File};
 ghost use Rattle.ntfs_record.specs.FileRecord.{Attribute, Laid, FileRecord};
 ghost use Rattle.ntfs_record.specs.Attribute.{attribute_of, IsRaw};
 ghost use Rattle.ntfs_record.specs.Layout.{first_attribute_of, non_resident_at};
 ghost use Rattle.ntfs_record.specs.Parsing.{raws_of, parse_of, IsAccepted};
+ghost use Rattle.ntfs_record.specs.IsRecord.{IsRecord};
 ghost use Rattle.ntfs_record.specs.Slots.{record_in};
 ghost use Rattle.ntfs_record.specs.Spelling.{AllRaw};
-ghost use Rattle.ntfs_record.specs.Views.{Placed, placed_from};
+ghost use Rattle.ntfs_record.specs.Views.{Placed, placed_from, placed_of, shown_placed};
 ghost use Rattle.ntfs_runs.specs.Canon.{canon, AreCells};
 ghost use Rattle.ntfs_runs.specs.Cells.{Cells};
-ghost use Rattle.ntfs_edit.specs.Edits.{with_pairs, with_value, with_sizes, TakesPairs, TakesValue, TakesSizes, pairs_said, value_said, sizes_said, BeginsFrom, changed};
+ghost use Rattle.ntfs_edit.specs.Edits.{with_pairs, with_value, with_sizes, TakesPairs, TakesValue, TakesSizes, pairs_said, value_said, sizes_said, BeginsFrom, BeginsAsShown, changed};
 ghost use Rattle.ntfs_edit.specs.Respelt.{need_of, respelt, respelt_record, IsChange};
 ghost use Rattle.ntfs_edit.specs.Rows.{ChangesOne, EditsRead, AllEditsRead, read_of, with_cells_read, cells_said, Turn};
 
@@ -31,7 +32,7 @@ pub fn edited_attributes_are_read()
 {}
 
 /// Of a record's attributes the one that begins at a place is edited, and the others stay; where that one stays sound,
-/// all are. An attribute of the record begins at its place.
+/// all are. An attribute of the record begins at its place, and each that a view shows at the place that is shown.
 pub fn one_attribute_is_edited(bytes: &[u8])
     ensures one { (residence place : ℕ) (f : List ℕ → List ℕ) → IsAccepted bytes.now
         → BeginsFrom residence place (first_attribute_of bytes.now) (raws_of bytes.now (first_attribute_of bytes.now))
@@ -40,6 +41,8 @@ pub fn one_attribute_is_edited(bytes: &[u8])
         → IsRaw (f one.raw) → AllRaw (changed place f bytes.now) }
     ensures begins { (residence here : ℕ) (raws : List (List ℕ)) (p : Placed) → Contains (placed_from here raws) p
         → non_resident_at 0 p.raw ≡ residence → BeginsFrom residence p.place here raws }
+    ensures shown { (r : FileRecord) → IsRecord bytes.now r
+        → AllByRecursion (BeginsAsShown bytes.now) (map shown_placed (placed_of r)) }
 {}
 
 /// A record with other sound attributes, for which it has room, is as long as it was, parses to the old record with

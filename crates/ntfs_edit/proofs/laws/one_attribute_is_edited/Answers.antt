@@ -1,4 +1,4 @@
-use Rattle.ntfs_edit.proofs.RowLemmas.{changes-one, one-sound, begins-placed}
+use Rattle.ntfs_edit.proofs.RowLemmas.{changes-one, one-sound, begins-placed, shown-begin}
 use Rattle.ntfs_edit.proofs.laws.one_attribute_is_edited.Goals as goal
 
 pub returns-clause-one : goal.returns-clause-one
@@ -9,3 +9,6 @@ returns-clause-sound c place f one is sound = one-sound place f c.args.bytes.now
 
 pub returns-clause-begins : goal.returns-clause-begins
 returns-clause-begins c = begins-placed
+
+pub returns-clause-shown : goal.returns-clause-shown
+returns-clause-shown c = shown-begin c.args.bytes.now
