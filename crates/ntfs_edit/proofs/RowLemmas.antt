@@ -1,6 +1,7 @@
 -- Edits of the attributes of a record in a row.
-use Rattle.std.proofs.Common.{◌≡◌, ◌≤◌, ◌<◌, ◌+◌, ◌^◌, ℕ, zero, suc, Option, List, get_or, [], ◌∷◌, length, map, Ok, refl, sym, ap, ◌∙◌, subst, arith, inl, inr, replicate, ◌-◌}
+use Rattle.std.proofs.Common.{◌≡◌, ◌≤◌, ◌<◌, ◌+◌, ◌^◌, ℕ, zero, suc, Option, List, get_or, [], ◌∷◌, ◌++◌, length, map, Ok, refl, sym, ap, ◌∙◌, subst, arith, inl, inr, replicate, ◌-◌}
 use Rattle.std.specs.List.{Contains, AllByRecursion}
+use Rattle.std.proofs.lemmas.List.{map-append}
 use Rattle.ntfs_record.specs.FileRecord.{Attribute, Laid, HeadLayout, FileRecord}
 use Rattle.ntfs_record.specs.Layout.{first_attribute_of, non_resident_at, pairs_offset_at}
 use Rattle.ntfs_record.specs.Attribute.{resident_at, runs_at, attribute_of, IsRaw}
@@ -43,6 +44,14 @@ pub one-sound : (place : ℕ) (f : List ℕ → List ℕ) (bytes : List ℕ) (on
 one-sound place f bytes one is sound =
     subst AllRaw (sym one.new)
     (all-replaced one.before one.raw (f one.raw) one.after (subst AllRaw one.old (all-accepted bytes is)) sound)
+
+-- and the others say what they said
+pub one-read : (place : ℕ) (f : List ℕ → List ℕ) (bytes : List ℕ) (said : Attribute (Laid (List ℕ)))
+    (one : ChangesOne place f bytes) → attribute_of (f one.raw) ≡ said
+    → map attribute_of (changed place f bytes) ≡ map attribute_of one.before ++ (said ∷ map attribute_of one.after)
+one-read place f bytes said one is =
+    ap (map attribute_of) one.new ∙ map-append attribute_of one.before (f one.raw ∷ one.after)
+    ∙ ap (λ a. map attribute_of one.before ++ (a ∷ map attribute_of one.after)) is
 
 -- an attribute of the row is one that begins at its place
 begins-nth : (i residence here : ℕ) (raws : List (List ℕ)) (p : Placed) → i < length (placed_from here raws)
