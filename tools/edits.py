@@ -1,10 +1,10 @@
 #!/usr/bin/env python3
 """Edits attributes of random file records, and compares each result with that of `ntfs_edit`, byte for byte.
 
-What an edit comes to is written down here once more, from the format alone: mapping pairs keep an attribute's length where
-they fit, a value has its length rounded up to 8, what follows is shifted, the bytes in use are told, and all other bytes
-stay. The other side is a program over the crates, written into a temporary folder, which `rt run` proves and runs. Usage:
-tools/edits.py [SEED]. It ends with 1 where a result differs. The repository is only read.
+What an edit comes to is written down here once more, from the format alone: mapping pairs keep an attribute's length
+where they fit, a value has its length rounded up to 8, what follows is shifted, the bytes in use are told, and all
+other bytes stay. The other side is a program over the crates, written into a temporary folder, which `rt run` proves
+and runs. Usage: tools/edits.py [SEED]. It ends with 1 where a result differs. The repository is only read.
 """
 
 import pathlib
@@ -247,7 +247,8 @@ def told(lines):
     with tempfile.TemporaryDirectory() as folder:
         top = pathlib.Path(folder)
         for crate in CRATES:
-            shutil.copytree(TOP / "crates" / crate, top / "crates" / crate, ignore=shutil.ignore_patterns("must-fail", "out"))
+            without = shutil.ignore_patterns("must-fail", "out")
+            shutil.copytree(TOP / "crates" / crate, top / "crates" / crate, ignore=without)
         own = top / "crates" / NAME
         for file, text in (("src/main.rt", PROGRAM), ("proofs/place_of/Invariants.antt", INVARIANTS)):
             (own / file).parent.mkdir(parents=True, exist_ok=True)

@@ -32,7 +32,8 @@ pub fn edited_attributes_are_read()
 {}
 
 /// Of a record's attributes the one that begins at a place is edited, and the others stay and say what they said; where
-/// that one stays sound, all are. An attribute of the record begins at its place, and each that a view shows at the place that is shown.
+/// that one stays sound, all are. An attribute of the record begins at its place, and each that a view shows at the
+/// place that is shown.
 pub fn one_attribute_is_edited(bytes: &[u8])
     ensures one { (residence place : ℕ) (f : List ℕ → List ℕ) → IsAccepted bytes.now
         → BeginsFrom residence place (first_attribute_of bytes.now) (raws_of bytes.now (first_attribute_of bytes.now))
