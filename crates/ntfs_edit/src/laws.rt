@@ -98,9 +98,11 @@ pub fn edits_in_a_row_are_one(bytes: &[u8])
         → Turn bytes.now (respelt bytes.now (before ++ (raw ∷ after))) place f before raw after }
 {}
 
-/// Refixed, unfixed and parsed again, an edited record says its new attributes; it is in use where it was, and then says
-/// them as the record of its number.
+/// A record that unfixes has its first attribute behind the header's last field. Refixed, unfixed and parsed again, an
+/// edited record says its new attributes; it is in use where it was, and then says them as the record of its number.
 pub fn edited_records_are_read_again(bytes: &[u8])
+    ensures first { IsAccepted bytes.now → HasWholeStrides bytes.now → HasFront File bytes.now
+        → 0x30 ≤ first_attribute_of bytes.now }
     ensures says { (raws : List (List ℕ)) → IsAccepted bytes.now → HasWholeStrides bytes.now → HasFront File bytes.now
         → AllRaw raws → need_of bytes.now raws ≤ length bytes.now
         → record_in (refix_of (respelt bytes.now raws)) ≡ Some (respelt_record bytes.now raws) }
