@@ -1,23 +1,26 @@
 -- A record that is refixed with other attributes, and unfixed again, says them.
-use Rattle.std.proofs.Common.{◌≡◌, ◌≤◌, ◌+◌, ◌-◌, ◌*◌, ◌/◌, ℕ, cond, leb, List, ◌++◌, length, take, drop, Some, None, refl, sym, ap, ◌∙◌, subst, arith, inl, inr}
+use Rattle.std.proofs.Common.{◌≡◌, ◌≤◌, ◌+◌, ◌-◌, ◌*◌, ◌/◌, ℕ, true, codes, cond, leb, List, ◌++◌, length, take, drop, Some, None, refl, sym, ap, ◌∙◌, subst, arith, inl, inr}
 use Rattle.std.specs.List.{concat}
 use Rattle.std.proofs.lemmas.List.{ext_get_or, get_or-drop, length-drop, length-take-le, take-append-drop, get_or-take}
 use Rattle.std.proofs.lemmas.Bool.{leb-true}
 use Rattle.std.proofs.Math.Seq.{drop-append_seam}
+use Rattle.std.proofs.lemmas.Bool.Decides.{Decides-eqb}
+use Rattle.std.proofs.lemmas.Slice.Eq.{slice_eq-Decides}
 use Rattle.ntfs_base.specs.Bytes.{number_at}
 use Rattle.ntfs_fixup.specs.declared.header.Magic.TheVariants.{File}
-use Rattle.ntfs_fixup.specs.Fixups.{HasWholeStrides, HasFront, SameOutsideArray, least_offset, has_magic, has_good_array, refix_of, unfix_block}
-use Rattle.ntfs_fixup.proofs.FixupLemmas.{number_at-same, offset_number, count_number, good_array}
-use Rattle.ntfs_fixup.proofs.LawLemmas.{has_good_array-any, SameOutsideArray-refix_of, unfix_of-refix_of}
-use Rattle.ntfs_record.specs.FileRecord.{FileRecord}
-use Rattle.ntfs_record.specs.Layout.{array_offset, array_count, first_attribute_of, in_use_of, allocated_of, with_in_use}
-use Rattle.ntfs_record.specs.Header.{head_of, layout_of}
+use Rattle.ntfs_fixup.specs.Fixups.{HasWholeStrides, HasFront, KeepsFront, SameOutsideArray, least_offset, has_magic, has_good_array, refix_of, unfix_block}
+use Rattle.ntfs_fixup.proofs.FixupLemmas.{number_at-same, offset_number, count_number, good_array, number-kept}
+use Rattle.ntfs_fixup.proofs.LawLemmas.{has_good_array-any, KeepsFront-refix_of, SameOutsideArray-refix_of, unfix_of-refix_of}
+use Rattle.ntfs_record.specs.FileRecord.{FileRecord, Head}
+use Rattle.ntfs_record.specs.Layout.{array_offset, array_count, first_attribute_of, in_use_of, allocated_of, with_in_use, flags_of}
+use Rattle.ntfs_record.specs.Header.{head_of, layout_of, begins_file}
 use Rattle.ntfs_record.specs.Parsing.{raws_of, IsAccepted}
 use Rattle.ntfs_record.specs.IsRecord.{AreRaws, IsRecord, IsSoundHeader}
-use Rattle.ntfs_record.specs.Slots.{if_parsed, if_unfixed, record_in}
+use Rattle.ntfs_record.specs.Slots.{if_parsed, if_unfixed, record_in, is_in_use, live_slot, own_slot, slot_of}
 use Rattle.ntfs_record.specs.Spelling.{AllRaw, Spelling, IsSpelling, attributes_end}
 use Rattle.ntfs_record.proofs.Sound.{whether}
 use Rattle.ntfs_record.proofs.RecordLemmas.{record_from}
+use Rattle.ntfs_record.proofs.SlotLemmas.{slot-live}
 use Rattle.ntfs_record.proofs.SpellingLemmas.{parses-spelled, spelled-is}
 use Rattle.ntfs_edit.specs.Respelt.{need_of, respelt, respelt_record, IsChange}
 use Rattle.ntfs_edit.proofs.RespeltLemmas.{old, same-header, respelt-long, respelt-is, number-low}
@@ -235,3 +238,51 @@ read-again bytes raws accepted whole front all room =
     let kept = outside-is new block (respelt_record bytes raws) (respelt-is bytes raws is) same (omega (arith, f.1, a.offset)) in
     ap if_unfixed (unfix_of-refix_of File new a.whole a.front)
     ∙ ap if_parsed (record_from block (respelt_record bytes raws) kept)
+
+-- ---- the record of a number
+
+-- the first bytes stay
+take-kept : (k : ℕ) (bytes others : List ℕ) → KeepsFront bytes others → k ≤ array_offset bytes → k ≤ length bytes
+    → take k others ≡ take k bytes
+take-kept k bytes others kept before within =
+    let long = length-take-le k bytes within in
+    let other_long = length-take-le k others (omega (arith, kept.long)) in
+    ext_get_or 0 (take k others) (take k bytes) (other_long ∙ sym long)
+    (λ i l. get_or-take k others i 0 (omega arith) ∙ kept.front i (omega arith) ∙ sym (get_or-take k bytes i 0 (omega arith)))
+
+file-from : (bytes : List ℕ) → take 4 bytes ≡ codes "FILE" → begins_file bytes ≡ true
+unfolding begins_file
+file-from bytes is = (slice_eq-Decides Decides-eqb (codes "FILE") (take 4 bytes) (begins_file bytes) refl).1 (sym is)
+
+in_use-same : (bytes others : List ℕ) → begins_file bytes ≡ true → begins_file others ≡ true
+    → flags_of others ≡ flags_of bytes → is_in_use others ≡ is_in_use bytes
+unfolding is_in_use
+in_use-same bytes others one other flags = rw (one, other, flags) refl
+
+-- refixed, the record is in use where it was
+pub in_use-again : (bytes : List ℕ) (raws : List (List ℕ)) → IsChange bytes raws → HasWholeStrides bytes
+    → HasFront File bytes → is_in_use (refix_of (respelt bytes raws)) ≡ is_in_use bytes
+in_use-again bytes raws is whole front =
+    let f = first-behind bytes is.accepted whole front in
+    let a = again bytes raws is whole front in
+    let new = respelt bytes raws in
+    let array = has_good_array-any File (respelt bytes raws) a.front.array in
+    let kept = KeepsFront-refix_of (respelt bytes raws) array in
+    let r = respelt-is bytes raws is in
+    let o = old bytes is.accepted in
+    let behind : 0x2A ≤ array_offset (respelt bytes raws) = omega (arith, f.1, a.offset) in
+    let magic = take-kept 4 new (refix_of new) kept (omega arith) (omega (arith, r.header.fields)) ∙ r.header.magic in
+    let flags : flags_of (refix_of (respelt bytes raws)) ≡ flags_of (respelt bytes raws) =
+    number-kept 2 0x16 new (refix_of new) kept (omega arith) in
+    let same : flags_of (respelt bytes raws) ≡ flags_of bytes = ap (λ (h : Head). h.flags) (sym r.head) in
+    in_use-same bytes (refix_of new) (file-from bytes o.header.magic) (file-from (refix_of new) magic) (flags ∙ same)
+
+-- and says its new attributes by its number
+pub slot-again : (n : ℕ) (bytes : List ℕ) (raws : List (List ℕ)) → IsAccepted bytes → HasWholeStrides bytes
+    → HasFront File bytes → AllRaw raws → need_of bytes raws ≤ length bytes → is_in_use bytes ≡ true
+    → slot_of n (Some (refix_of (respelt bytes raws))) ≡ own_slot n (respelt_record bytes raws)
+slot-again n bytes raws accepted whole front all room live =
+    let f = first-behind bytes accepted whole front in
+    let is : IsChange bytes raws = record { accepted = accepted; first = f.0; all = all; room = room } in
+    slot-live n (refix_of (respelt bytes raws)) (in_use-again bytes raws is whole front ∙ live)
+    ∙ ap (live_slot n) (read-again bytes raws accepted whole front all room)

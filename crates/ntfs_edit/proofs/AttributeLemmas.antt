@@ -169,10 +169,10 @@ pairs-raw pairs next raw is runs lowest highest fits =
       kind = λ e. is.kind (sym m.face.kind ∙ e);
     }
 
-runs-are : (raw : List ℕ) → non_resident_at 0 raw ≡ 1 → attribute_of raw ≡ runs_at 0 raw
+pub runs-are : (raw : List ℕ) → non_resident_at 0 raw ≡ 1 → attribute_of raw ≡ runs_at 0 raw
 runs-are raw is = rw is refl
 
-resident-is : (raw : List ℕ) → non_resident_at 0 raw ≡ 0 → attribute_of raw ≡ resident_at 0 raw
+pub resident-is : (raw : List ℕ) → non_resident_at 0 raw ≡ 0 → attribute_of raw ≡ resident_at 0 raw
 resident-is raw is = rw is refl
 
 -- what is asked only where a test holds

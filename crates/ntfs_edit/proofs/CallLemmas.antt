@@ -5,12 +5,11 @@ use Rattle.std.proofs.lemmas.Bool.{leb-true, le-leb}
 use Rattle.ntfs_base.specs.Bytes.{AreBytes}
 use Rattle.ntfs_record.specs.Layout.{first_attribute_of, in_use_of, length_at, non_resident_at, with_allocated_at, with_size_at, with_valid_at}
 use Rattle.ntfs_record.specs.Attribute.{IsSoundAt, HasRuns, HasValue}
-use Rattle.ntfs_record.specs.Parsing.{raws_of, parse_of, IsAccepted}
+use Rattle.ntfs_record.specs.Parsing.{raws_of, parse_of, IsAccepted, record_of}
 use Rattle.ntfs_record.specs.Spelling.{AllRaw}
 use Rattle.ntfs_record.proofs.Sound.{whether}
 use Rattle.ntfs_record.proofs.SpellingLemmas.{parses-spelled}
 use Rattle.ntfs_record.proofs.StandsLemmas.{same_fields, same_runs, sound-stands}
-use Rattle.ntfs_record.specs.Parsing.{record_of}
 use Rattle.ntfs_edit.specs.declared.room.NoRoom.{NoRoom}
 use Rattle.ntfs_edit.specs.Edits.{BeginsFrom, changed, pairs_size, with_pairs, value_size, with_value, with_sizes}
 use Rattle.ntfs_edit.specs.Respelt.{need_of, respelt, respelt_record, room_for, where_room}

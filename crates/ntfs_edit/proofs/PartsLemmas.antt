@@ -104,7 +104,7 @@ pub record Parts (bytes : List ℕ) (place : ℕ) (before : List (List ℕ)) (ra
   pub more : length (more_of bytes after) ≡ length (concat after) + tail_length bytes
 
 -- what is behind the attributes, in two parts
-tail-rest : (bytes : List ℕ) → attributes_end bytes ≤ in_use_of bytes
+pub tail-rest : (bytes : List ℕ) → attributes_end bytes ≤ in_use_of bytes
     → drop (attributes_end bytes) bytes ≡ tail_of bytes ++ drop (in_use_of bytes) bytes
 unfolding tail_of tail_length piece_at
 tail-rest bytes ends =

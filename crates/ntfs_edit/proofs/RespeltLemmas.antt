@@ -4,10 +4,10 @@ use Rattle.std.specs.List.{concat}
 use Rattle.std.proofs.lemmas.List.{length-take-le, length-drop, take-append-le}
 use Rattle.byteorder.specs.Endian.{little_bytes}
 use Rattle.byteorder.specs.Numbers.{length-bytes_low_first}
-use Rattle.ntfs_base.specs.Bytes.{number_at, piece_at, overwrite}
+use Rattle.ntfs_base.specs.Bytes.{AreBytes, number_at, piece_at, overwrite}
 use Rattle.ntfs_base.proofs.BytesLemmas.{take-take, number_at-take, number_at-append, number_at-drop}
 use Rattle.ntfs_base.proofs.PieceLemmas.{number-piece, length-piece}
-use Rattle.ntfs_base.proofs.OverwriteLemmas.{length-overwrite, take-overwrite, number-before, number-after, number-overwrite}
+use Rattle.ntfs_base.proofs.OverwriteLemmas.{length-overwrite, take-overwrite, number-before, number-after, number-overwrite, overwrite-number}
 use Rattle.ntfs_fixup.proofs.FixupLemmas.{offset_number, count_number}
 use Rattle.ntfs_record.specs.Layout.{array_offset, array_count, first_attribute_of, in_use_of, allocated_of, kind_at, with_in_use}
 use Rattle.ntfs_record.specs.Header.{head_of, layout_of}
@@ -18,7 +18,8 @@ use Rattle.ntfs_record.specs.Spelling.{IsSpelling, attributes_end}
 use Rattle.ntfs_record.proofs.RecordLemmas.{record_from}
 use Rattle.ntfs_record.proofs.SpellingLemmas.{parses-spelled, spelled-is}
 use Rattle.ntfs_edit.specs.Respelt.{tail_length, tail_of, need_of, respelling, respelt, respelt_record, IsChange}
-use Rattle.ntfs_edit.proofs.PartsLemmas.{accepted-record, tail-long}
+use Rattle.ntfs_edit.proofs.PutLemmas.{take-inside}
+use Rattle.ntfs_edit.proofs.PartsLemmas.{accepted-record, tail-long, tail-rest}
 
 -- what the old record gives
 pub record Old (bytes : List ℕ) : Type 0 where
@@ -223,3 +224,30 @@ respelt-is bytes raws is =
 pub respelt-parses : (bytes : List ℕ) (raws : List (List ℕ)) → IsChange bytes raws
     → parse_of (respelt bytes raws) ≡ Ok (respelt_record bytes raws)
 respelt-parses bytes raws is = record_from (respelt bytes raws) (respelt_record bytes raws) (respelt-is bytes raws is)
+
+-- ---- the record with its own attributes
+
+pub need-own : (bytes : List ℕ) → IsAccepted bytes
+    → need_of bytes (raws_of bytes (first_attribute_of bytes)) ≡ in_use_of bytes
+unfolding need_of tail_length
+need-own bytes is = omega (arith, (old bytes is).last)
+
+-- is itself
+pub respelt-own : (bytes : List ℕ) → AreBytes bytes → IsAccepted bytes
+    → respelt bytes (raws_of bytes (first_attribute_of bytes)) ≡ bytes
+unfolding respelt with_in_use
+respelt-own bytes are is =
+    let o = old bytes is in
+    let first = first_attribute_of bytes in
+    let raws = raws_of bytes (first_attribute_of bytes) in
+    let used = little_bytes 4 (in_use_of bytes) in
+    let four : length (little_bytes 4 (in_use_of bytes)) ≡ 4 = length-bytes_low_first 0 4 (in_use_of bytes) in
+    let need = need-own bytes is in
+    let front : overwrite 0x18 used (take first bytes) ≡ take first bytes =
+    sym (take-inside first 0x18 used bytes (omega (arith, o.header.behind_header)) o.within)
+    ∙ ap (take first) (overwrite-number 4 0x18 bytes are (omega (arith, o.header.behind_header, o.within))) in
+    let rest = tail-rest bytes (omega (arith, o.last)) in
+    let s = parses-spelled bytes (record_of bytes) (accepted-record bytes is) in
+    ap (λ n. overwrite 0x18 (little_bytes 4 n) (take first bytes) ++ (concat raws ++ (tail_of bytes ++ drop n bytes))) need
+    ∙ ap (λ xs. xs ++ (concat raws ++ (tail_of bytes ++ drop (in_use_of bytes) bytes))) front
+    ∙ ap (λ xs. take first bytes ++ (concat raws ++ xs)) (sym rest) ∙ s.same

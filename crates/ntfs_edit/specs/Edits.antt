@@ -1,10 +1,11 @@
 -- What edits make of an attribute's own bytes, and of a record in which one attribute is edited (the Linux-NTFS
 -- documentation, "Attribute Header": lengths are multiples of 8; the words are ours).
-use Rattle.std.specs.Prelude.{ℕ, ◌≡◌, ◌⊎◌, ◌≤◌, ◌<◌, ◌+◌, ◌-◌, ◌*◌, ◌/◌, ◌%◌, ◌^◌, ◌==◌, max, List, [], ◌∷◌, ◌++◌, length, take, replicate, if◌then◌else◌}
+use Rattle.std.specs.Prelude.{ℕ, ◌≡◌, ◌⊎◌, ◌≤◌, ◌<◌, ◌+◌, ◌-◌, ◌*◌, ◌/◌, ◌%◌, ◌^◌, ◌==◌, max, Bool, true, false, List, [], ◌∷◌, ◌++◌, length, take, replicate, if◌then◌else◌}
 use Rattle.ntfs_record.specs.FileRecord.{Attribute, Laid}
 use Rattle.ntfs_record.specs.Attribute.{attribute_of, IsRaw}
 use Rattle.ntfs_record.specs.Layout.{first_attribute_of, non_resident_at, name_units_at, name_offset_at, lowest_at, pairs_offset_at, value_offset_at, with_length_at, with_highest_at, with_value_length_at, with_allocated_at, with_size_at, with_valid_at}
 use Rattle.ntfs_record.specs.Parsing.{raws_of}
+use Rattle.ntfs_record.specs.Views.{Shown}
 
 -- the least multiple of 8 from a number on
 unfoldable pub up8 : ℕ → ℕ
@@ -126,3 +127,14 @@ HasResidentAt place bytes =
 -- a non-resident attribute of the record begins at the place
 abbrev pub HasRunsAt : ℕ → List ℕ → Type 0
 HasRunsAt place bytes = BeginsFrom 1 place (first_attribute_of bytes) (raws_of bytes (first_attribute_of bytes))
+
+-- the field that tells whether an attribute is resident
+abbrev pub residence_of : Bool → ℕ
+residence_of true = 0
+residence_of false = 1
+
+-- an attribute of the record begins at the place that is shown of it, and is resident where that is shown
+abbrev pub BeginsAsShown : List ℕ → Shown → Type 0
+BeginsAsShown bytes shown =
+    BeginsFrom (residence_of shown.body.is_resident) shown.place (first_attribute_of bytes)
+    (raws_of bytes (first_attribute_of bytes))

@@ -1,19 +1,20 @@
 //! Laws of the definitions. Each function does nothing, and its contract is the law.
 
-ghost use Rattle.std.specs.Prelude.{◌≡◌, ◌≤◌, ◌<◌, ◌+◌, ◌^◌, ◌++◌, ◌∷◌, ℕ, List, Option, Some, Ok, length, map};
-ghost use Rattle.std.specs.List.{concat, Contains};
+ghost use Rattle.std.specs.Prelude.{◌≡◌, ◌≤◌, ◌<◌, ◌+◌, ◌^◌, ◌++◌, ◌∷◌, ℕ, List, Option, Some, Ok, true, length, map};
+ghost use Rattle.std.specs.List.{concat, Contains, AllByRecursion};
 ghost use Rattle.ntfs_fixup.specs.Fixups.{HasWholeStrides, HasFront, refix_of};
 ghost use Rattle.ntfs_fixup.specs.declared.header.Magic.TheVariants.{File};
 ghost use Rattle.ntfs_record.specs.FileRecord.{Attribute, Laid, FileRecord};
 ghost use Rattle.ntfs_record.specs.Attribute.{attribute_of, IsRaw};
 ghost use Rattle.ntfs_record.specs.Layout.{first_attribute_of, non_resident_at};
 ghost use Rattle.ntfs_record.specs.Parsing.{raws_of, parse_of, IsAccepted};
-ghost use Rattle.ntfs_record.specs.Slots.{record_in};
+ghost use Rattle.ntfs_record.specs.IsRecord.{IsRecord};
+ghost use Rattle.ntfs_record.specs.Slots.{is_in_use, record_in, own_slot, slot_of};
 ghost use Rattle.ntfs_record.specs.Spelling.{AllRaw};
-ghost use Rattle.ntfs_record.specs.Views.{Placed, placed_from};
+ghost use Rattle.ntfs_record.specs.Views.{Placed, placed_from, placed_of, shown_placed};
 ghost use Rattle.ntfs_runs.specs.Canon.{canon, AreCells};
 ghost use Rattle.ntfs_runs.specs.Cells.{Cells};
-ghost use Rattle.ntfs_edit.specs.Edits.{with_pairs, with_value, with_sizes, TakesPairs, TakesValue, TakesSizes, pairs_said, value_said, sizes_said, BeginsFrom, changed};
+ghost use Rattle.ntfs_edit.specs.Edits.{with_pairs, with_value, with_sizes, TakesPairs, TakesValue, TakesSizes, pairs_said, value_said, sizes_said, BeginsFrom, BeginsAsShown, changed};
 ghost use Rattle.ntfs_edit.specs.Respelt.{need_of, respelt, respelt_record, IsChange};
 ghost use Rattle.ntfs_edit.specs.Rows.{ChangesOne, EditsRead, AllEditsRead, read_of, with_cells_read, cells_said, Turn};
 
@@ -30,21 +31,30 @@ pub fn edited_attributes_are_read()
         ≡ sizes_said allocated size valid (attribute_of raw)) }
 {}
 
-/// Of a record's attributes the one that begins at a place is edited, and the others stay; where that one stays sound,
-/// all are. An attribute of the record begins at its place.
+/// Of a record's attributes the one that begins at a place is edited, and the others stay and say what they said; where
+/// that one stays sound, all are. An attribute of the record begins at its place, and each that a view shows at the
+/// place that is shown.
 pub fn one_attribute_is_edited(bytes: &[u8])
     ensures one { (residence place : ℕ) (f : List ℕ → List ℕ) → IsAccepted bytes.now
         → BeginsFrom residence place (first_attribute_of bytes.now) (raws_of bytes.now (first_attribute_of bytes.now))
         → ChangesOne place f bytes.now }
     ensures sound { (place : ℕ) (f : List ℕ → List ℕ) (one : ChangesOne place f bytes.now) → IsAccepted bytes.now
         → IsRaw (f one.raw) → AllRaw (changed place f bytes.now) }
+    ensures reads { (place : ℕ) (f : List ℕ → List ℕ) (said : Attribute (Laid (List ℕ)))
+        (one : ChangesOne place f bytes.now) → attribute_of (f one.raw) ≡ said
+        → map attribute_of (changed place f bytes.now)
+        ≡ map attribute_of one.before ++ (said ∷ map attribute_of one.after) }
     ensures begins { (residence here : ℕ) (raws : List (List ℕ)) (p : Placed) → Contains (placed_from here raws) p
         → non_resident_at 0 p.raw ≡ residence → BeginsFrom residence p.place here raws }
+    ensures shown { (r : FileRecord) → IsRecord bytes.now r
+        → AllByRecursion (BeginsAsShown bytes.now) (map shown_placed (placed_of r)) }
 {}
 
-/// A record with other sound attributes, for which it has room, is as long as it was, parses to the old record with
-/// these, and can be edited again. What parses can be edited.
+/// A record with its own attributes is itself. One with other sound attributes, for which it has room, is as long as it
+/// was, parses to the old record with these, and can be edited again. What parses can be edited.
 pub fn edited_records_parse(bytes: &[u8])
+    ensures same { IsAccepted bytes.now
+        → respelt bytes.now (raws_of bytes.now (first_attribute_of bytes.now)) ≡ bytes.now }
     ensures long { (raws : List (List ℕ)) → IsChange bytes.now raws
         → length (respelt bytes.now raws) ≡ length bytes.now }
     ensures parses { (raws : List (List ℕ)) → IsChange bytes.now raws
@@ -88,11 +98,21 @@ pub fn edits_in_a_row_are_one(bytes: &[u8])
         → Turn bytes.now (respelt bytes.now (before ++ (raw ∷ after))) place f before raw after }
 {}
 
-/// Refixed, unfixed and parsed again, an edited record says its new attributes.
+/// A record that unfixes has its first attribute behind the header's last field. Refixed, unfixed and parsed again, an
+/// edited record says its new attributes; it is in use where it was, and then says them as the record of its number.
 pub fn edited_records_are_read_again(bytes: &[u8])
-    ensures { (raws : List (List ℕ)) → IsAccepted bytes.now → HasWholeStrides bytes.now → HasFront File bytes.now
+    ensures first { IsAccepted bytes.now → HasWholeStrides bytes.now → HasFront File bytes.now
+        → 0x30 ≤ first_attribute_of bytes.now }
+    ensures says { (raws : List (List ℕ)) → IsAccepted bytes.now → HasWholeStrides bytes.now → HasFront File bytes.now
         → AllRaw raws → need_of bytes.now raws ≤ length bytes.now
         → record_in (refix_of (respelt bytes.now raws)) ≡ Some (respelt_record bytes.now raws) }
+    ensures in_use { (raws : List (List ℕ)) → IsChange bytes.now raws → HasWholeStrides bytes.now
+        → HasFront File bytes.now → is_in_use (refix_of (respelt bytes.now raws)) ≡ is_in_use bytes.now }
+    ensures slot { (number : ℕ) (raws : List (List ℕ)) → IsAccepted bytes.now → HasWholeStrides bytes.now
+        → HasFront File bytes.now → AllRaw raws → need_of bytes.now raws ≤ length bytes.now
+        → is_in_use bytes.now ≡ true
+        → slot_of number (Some (refix_of (respelt bytes.now raws)))
+        ≡ own_slot number (respelt_record bytes.now raws) }
 {}
 
 /// A run list in its canonical spelling is read back from the attribute that got it, whatever padding stands behind it.

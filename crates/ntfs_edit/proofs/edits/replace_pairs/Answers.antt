@@ -1,8 +1,7 @@
-use Rattle.std.proofs.Common.{◌∙◌, ap}
+use Rattle.std.proofs.Common.{◌∙◌, ap, length}
 use Rattle.ntfs_edit.specs.Edits.{changed, with_pairs}
 use Rattle.ntfs_edit.specs.Respelt.{need_of, respelt, room_for}
 use Rattle.ntfs_edit.specs.Steps.{resized_need, pairs_size_at, pairs_put}
-use Rattle.std.proofs.Common.{length}
 use Rattle.ntfs_edit.proofs.CallLemmas.{call, call-runs, pairs-need, pairs-new, room-same, edit-parses}
 use Rattle.ntfs_edit.proofs.edits.replace_pairs.Goals as goal
 

@@ -1,6 +1,10 @@
-use Rattle.ntfs_edit.proofs.RespeltLemmas.{respelt-long, respelt-parses}
+use Rattle.std.proofs.Common.{arith}
+use Rattle.ntfs_edit.proofs.RespeltLemmas.{respelt-long, respelt-parses, respelt-own}
 use Rattle.ntfs_edit.proofs.RowLemmas.{respelt-accepted, parsed-accepted}
 use Rattle.ntfs_edit.proofs.laws.edited_records_parse.Goals as goal
+
+pub returns-clause-same : goal.returns-clause-same
+returns-clause-same c is = respelt-own c.args.bytes.now (λ i. omega (arith, c.type_inv.bytes i)) is
 
 pub returns-clause-long : goal.returns-clause-long
 returns-clause-long c raws is = respelt-long c.args.bytes.now raws is.accepted is.room
