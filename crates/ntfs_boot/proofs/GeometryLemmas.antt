@@ -8,9 +8,8 @@ use Rattle.ntfs_base.specs.Checks.{first_wrong}
 use Rattle.ntfs_boot.specs.BootSector.{fields_of, oem_id_of}
 use Rattle.ntfs_boot.specs.declared.boot_sector.BootSector.{BootSector}
 use Rattle.ntfs_boot.specs.declared.geometry.BootFault.{BootFault}
-use Rattle.ntfs_boot.specs.declared.geometry.BootFault.TheVariants as boot
 use Rattle.ntfs_boot.specs.declared.volume.ImageFault.TheVariants as image
-use Rattle.ntfs_boot.specs.Geometry.{volume_geometry, geometry_in, sector_geometry, IsCluster, IsBootRefusal, IsRefusal, boot_geometry, image_fault}
+use Rattle.ntfs_boot.specs.Geometry.{volume_geometry, geometry_in, sector_geometry, IsCluster, IsBootRefusal, boot_geometry}
 use Rattle.ntfs_boot.specs.Geometry.{cluster_size, record_size, block_size, cluster_count, geometry_of, is_sector_size, is_sector_count, is_record_size, is_block_size, is_cluster_count, lies_within, checks, refusal_or}
 use Rattle.ntfs_boot.specs.Geometry.{wrong_sector, wrong_count, wrong_cluster, wrong_record, wrong_block, wrong_sectors, wrong_mft, wrong_mirror}
 

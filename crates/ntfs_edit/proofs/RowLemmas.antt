@@ -16,7 +16,7 @@ use Rattle.ntfs_runs.proofs.LawLemmas.{canon-read}
 use Rattle.ntfs_record.proofs.SpellingLemmas.{parses-spelled}
 use Rattle.ntfs_edit.specs.Edits.{BeginsFrom, BeginsAsShown, residence_of, changed, pairs_size, with_pairs, TakesPairs}
 use Rattle.ntfs_edit.specs.Respelt.{need_of, respelt, respelt_record, IsChange}
-use Rattle.ntfs_edit.specs.Rows.{ChangesOne, EditsRead, AllEditsRead, read_of, with_cells_read, cells_said}
+use Rattle.ntfs_edit.specs.Rows.{ChangesOne, EditsRead, AllEditsRead, all_read, with_cells_read, cells_said}
 use Rattle.ntfs_edit.proofs.RespeltLemmas.{respelt-long, respelt-parses}
 use Rattle.ntfs_edit.proofs.CallLemmas.{call, changed-call}
 use Rattle.ntfs_edit.proofs.ChangedLemmas.{all-accepted, all-replaced}
@@ -114,7 +114,7 @@ all-edited reads f g (raw ∷ raws) all = (all.0.is, all-edited reads f g raws a
 
 -- and what is read of them is changed
 pub edits-read : {X : Type 0} (reads : Attribute (Laid (List ℕ)) → X) (f : List ℕ → List ℕ) (g : X → X) (raws : List (List ℕ))
-    → AllEditsRead reads f g raws → read_of reads (map f raws) ≡ map g (read_of reads raws)
+    → AllEditsRead reads f g raws → all_read reads (map f raws) ≡ map g (all_read reads raws)
 edits-read reads f g [] all = refl
 edits-read reads f g (raw ∷ raws) all = let rest = edits-read reads f g raws all.1 in rw (all.0.says, rest) refl
 

@@ -30,8 +30,8 @@ abbrev pub AllEditsRead : {X : Type 0} → (Attribute (Laid (List ℕ)) → X) �
 AllEditsRead reads f g raws = AllByRecursion (EditsRead reads f g) raws
 
 -- what is read of attributes
-abbrev pub read_of : {X : Type 0} → (Attribute (Laid (List ℕ)) → X) → List (List ℕ) → List X
-read_of reads raws = map reads (map attribute_of raws)
+abbrev pub all_read : {X : Type 0} → (Attribute (Laid (List ℕ)) → X) → List (List ℕ) → List X
+all_read reads raws = map reads (map attribute_of raws)
 
 -- the plain values of an attribute, and the cells that its mapping pairs spell
 abbrev pub with_cells_read : Attribute (Laid (List ℕ)) → Attribute (Cells ℕ)

@@ -16,7 +16,7 @@ ghost use Rattle.ntfs_runs.specs.Canon.{canon, AreCells};
 ghost use Rattle.ntfs_runs.specs.Cells.{Cells};
 ghost use Rattle.ntfs_edit.specs.Edits.{with_pairs, with_value, with_sizes, TakesPairs, TakesValue, TakesSizes, pairs_said, value_said, sizes_said, BeginsFrom, BeginsAsShown, changed};
 ghost use Rattle.ntfs_edit.specs.Respelt.{need_of, respelt, respelt_record, IsChange};
-ghost use Rattle.ntfs_edit.specs.Rows.{ChangesOne, EditsRead, AllEditsRead, read_of, with_cells_read, cells_said, Turn};
+ghost use Rattle.ntfs_edit.specs.Rows.{ChangesOne, EditsRead, AllEditsRead, all_read, with_cells_read, cells_said, Turn};
 
 /// An edited attribute has nothing wrong, and says what it said, with other mapping pairs, another value or other
 /// sizes.
@@ -77,7 +77,7 @@ pub fn lists_of_edits_are_read(bytes: &[u8])
         ≡ Ok (respelt_record bytes.now (map f (raws_of bytes.now (first_attribute_of bytes.now)))) }
     ensures reads { (reads : Attribute (Laid (List ℕ)) → Attribute (Cells ℕ)) (f : List ℕ → List ℕ)
         (g : Attribute (Cells ℕ) → Attribute (Cells ℕ)) (raws : List (List ℕ)) → AllEditsRead reads f g raws
-        → read_of reads (map f raws) ≡ map g (read_of reads raws) }
+        → all_read reads (map f raws) ≡ map g (all_read reads raws) }
     ensures both { (reads : Attribute (Laid (List ℕ)) → Attribute (Cells ℕ)) (f h : List ℕ → List ℕ)
         (g k : Attribute (Cells ℕ) → Attribute (Cells ℕ)) (raw : List ℕ) → EditsRead reads f g raw
         → EditsRead reads h k (f raw) → EditsRead reads (λ r. h (f r)) (λ a. k (g a)) raw }

@@ -1,9 +1,7 @@
 -- Fields are read from the places at which they were put.
-use Rattle.std.proofs.Common.{◌≡◌, ◌<◌, ◌+◌, ◌-◌, ◌^◌, ◌/◌, ◌%◌, ℕ, List, [], ◌∷◌, ◌++◌, length, refl, sym, ap, ◌∙◌, subst, append_assoc, append-nil, arith}
+use Rattle.std.proofs.Common.{◌≡◌, ◌<◌, ◌+◌, ◌-◌, ◌^◌, ◌/◌, ◌%◌, ℕ, List, [], ◌∷◌, ◌++◌, length, refl, sym, ap, ◌∙◌, subst, append_assoc, arith}
 use Rattle.std.proofs.lemmas.List.{length-append, length-replicate}
-use Rattle.byteorder.specs.Endian.{little_bytes}
 use Rattle.byteorder.specs.Numbers.{length-bytes_low_first}
-use Rattle.ntfs_base.specs.Bytes.{number_at}
 use Rattle.ntfs_base.proofs.BytesLemmas.{number_at-bytes}
 use Rattle.ntfs_boot.specs.BootSector.{ntfs_id, oem_id_of, fields_of}
 use Rattle.ntfs_fixup.specs.Fixups.{array_offset, array_count}

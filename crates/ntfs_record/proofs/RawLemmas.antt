@@ -11,7 +11,6 @@ use Rattle.ntfs_base.proofs.PieceLemmas.{length-piece, length-piece-le}
 use Rattle.ntfs_record.specs.declared.fault.RecordFault.{RecordFault}
 use Rattle.ntfs_record.specs.FileRecord.{HeadLayout, FileRecord}
 use Rattle.ntfs_record.specs.Layout.{first_attribute_of, in_use_of, allocated_of, kind_at, length_at, non_resident_at, name_units_at, name_offset_at, value_length_at, value_offset_at, pairs_offset_at}
-use Rattle.ntfs_record.specs.Header.{layout_of}
 use Rattle.ntfs_record.specs.Attribute.{end_kind, name_at, resident_at, runs_at, raw_at, attribute_of, IsSoundAt, IsRaw}
 use Rattle.ntfs_record.specs.IsRecord.{Follow, AreRaws, IsRecord, LiesIn, LiesInside, IsBounded, IsKeptRaw, IsKept}
 use Rattle.ntfs_record.specs.Views.{Placed, placed_from, shown_placed, HasBounds}

@@ -3,6 +3,10 @@ ghost use Rattle.std.specs.Prelude.{◌≡◌};
 ghost use Rattle.ntfs_boot.specs.Geometry.{IsOpened};
 ghost use Rattle.ntfs_runs.specs.Clusters.{AreSpellable, AreWithin};
 
+use crate::laws::{
+    cells_are_of_members, extents_are_members, extents_are_of_the_base, extents_of_mapped_records,
+    gathering_maps, gathering_reads_its_records_alone,
+};
 use crate::made::patch;
 use crate::{Table, Volume, VolumeFault};
 use ntfs_base::{Image, Leaves, MemImage, Rule};
@@ -147,4 +151,15 @@ fn a_table_has_12_records_and_fewer_than_2_to_the_32(rt: HostRuntime) -> Result<
         assert_eq!(rt; fits(rt.alloc(), size, valid)?, want, "{size} {valid}");
     }
     Ok(())
+}
+
+/// The laws of gathering are spoken of payloads of any type: cluster numbers, and the bytes of clusters.
+#[test]
+fn laws_of_gathering_are_called() {
+    extents_are_of_the_base::<u64>();
+    extents_are_members::<u64>();
+    cells_are_of_members::<u64>();
+    gathering_reads_its_records_alone::<u64, u64>();
+    extents_of_mapped_records::<u64, bool>();
+    gathering_maps::<u64, Vec<u8>>();
 }
