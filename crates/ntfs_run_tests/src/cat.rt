@@ -406,6 +406,41 @@ fn volumes_without_a_map_are_refused(rt: HostRuntime) -> Result<(), Fail> {
     all_answer(&rt, alloc, &base, &cases)
 }
 
+/// $MFT is a value.
+const VALUE_FIRST: Record = Record {
+    attributes: &[TEXT_DATA],
+    ..FIRST
+};
+
+/// Where the unnamed data of record 0 stands.
+const TABLE_PLACE: usize = 4 * 1024 + 0x38;
+
+#[test]
+fn maps_that_do_not_fit_are_refused(rt: HostRuntime) -> Result<(), Fail> {
+    let alloc = rt.alloc();
+    let image = Image::of(SMALL_LEN).with_records(&[FIRST, TEXT]);
+    let c3 = Case::refuses(
+        &TWENTY,
+        image,
+        damage_of(Rule::C3, 0),
+        4,
+        "ntfscat: damaged: rule C3 record 0\n",
+    );
+    let cases = [
+        Case::puts(&TWENTY, image, b"text"),
+        c3.with_image(Image::of(SMALL_LEN).with_records(&[VALUE_FIRST])),
+        // Pairs that aren't right, and such whose clusters end behind the last.
+        c3.with_image(image.with_bytes(&[(TABLE_PLACE + 0x40, &[0x91])])),
+        c3.with_image(image.with_bytes(&[(TABLE_PLACE + 0x42, &[0x21])])),
+        // The lowest and the highest VCN, a size above the clusters' bytes, and an initialised size above the size.
+        c3.with_image(image.with_bytes(&[(TABLE_PLACE + 0x10, &[1]), (TABLE_PLACE + 0x18, &[32])])),
+        c3.with_image(image.with_bytes(&[(TABLE_PLACE + 0x30, &[1])])),
+        c3.with_image(image.with_bytes(&[(TABLE_PLACE + 0x38, &[1])])),
+    ];
+    let base = bare_volume(alloc).ok_or("no image")?;
+    all_answer(&rt, alloc, &base, &cases)
+}
+
 #[test]
 fn spellings_are_no_numbers(rt: HostRuntime) -> Result<(), Fail> {
     let alloc = rt.alloc();

@@ -449,10 +449,11 @@ fn a_made_volume_without_a_map_is_refused(rt: HostRuntime) -> Result<(), Fail> {
         4,
         "ntfscat: damaged: rule C3 record 0\n",
     );
-    // The flags and the base of record 28, and the length of the first entry of the list.
+    // The flags and the base of record 28, the length of the first entry of the list, and the lowest VCN of its fourth.
     let idle = [(AT_RECORD_28 + 0x16, b"\0".as_slice())];
     let other = [(AT_RECORD_28 + 0x20, b"\x05".as_slice())];
     let cut = [(AT_RECORD_0 + 0xB4, b"\0".as_slice())];
+    let apart = [(AT_RECORD_0 + 0x118, b"\x09".as_slice())];
     // The first byte of the mapping pairs of record 28.
     let pairs = [(AT_RECORD_28 + 0x78, b"\x91".as_slice())];
     let cases = [
@@ -460,6 +461,7 @@ fn a_made_volume_without_a_map_is_refused(rt: HostRuntime) -> Result<(), Fail> {
         c3.with_image(image.with_bytes(&idle)),
         c3.with_image(image.with_bytes(&other)),
         c3.with_image(image.with_bytes(&cut)),
+        c3.with_image(image.with_bytes(&apart)),
         c3.with_image(image.with_bytes(&pairs)).with_refusal(
             damage_of(Rule::C3, 28),
             "ntfscat: damaged: rule C3 record 28\n",
