@@ -15,47 +15,28 @@ import subprocess
 import sys
 import tempfile
 
-from measure import built_program, least
+from measure import RECORD, boot_of, built_program, data_of, has_stock_tools, least, make_stock, record_of, stock_number
 
 CLUSTER = 4096
-RECORD = 1024
 STREAM = 256 << 20
 FIRST = 16
-
-
-def runs(clusters, size, pairs):
-    length = (0x40 + len(pairs) + 7) // 8 * 8
-    head = struct.pack("<IIBBHHHQQHH4xQQQ", 0x80, length, 1, 0, 0x40, 0, 0, 0, clusters - 1, 0x40, 0, clusters * CLUSTER, size, size)
-    return (head + pairs).ljust(length, b"\0")
-
-
-def record(number, attribute):
-    head = struct.pack("<4sHHQHHHHIIQHHI", b"FILE", 0x30, 3, 0, 1, 1, 0x38, 1, 0x38 + len(attribute) + 8, RECORD, 0, 1, 0, number)
-    block = bytearray((head + struct.pack("<H6x", 1) + attribute + b"\xff\xff\xff\xff\0\0\0\0").ljust(RECORD, b"\0"))
-    block[0x1FE:0x200] = block[0x3FE:0x400] = b"\x01\0"
-    return bytes(block)
 
 
 def make(image, content):
     clusters = STREAM // CLUSTER
     table = CLUSTER * 4
     lcn = 64
-    sector = bytearray(512)
-    sector[3:11] = b"NTFS    "
-    struct.pack_into("<HB", sector, 0x0B, 512, CLUSTER // 512)
-    struct.pack_into("<QQQ", sector, 0x28, (lcn + clusters) * (CLUSTER // 512), 4, 32)
-    sector[0x40], sector[0x44] = 0xF6, 0xF4
     # Two runs of halves, so that the stream is not in one piece.
     half = clusters // 2
     pairs = bytes([0x14]) + struct.pack("<I", half) + bytes([lcn]) + bytes([0x34]) + struct.pack("<I", clusters - half)
     pairs += half.to_bytes(3, "little") + b"\0"
     size = 32 * RECORD
     with open(image, "wb") as file, open(content, "rb") as bytes_of:
-        file.write(sector)
+        file.write(boot_of(CLUSTER, lcn + clusters, 4, 32))
         file.seek(table)
-        file.write(record(0, runs(size // CLUSTER, size, bytes([0x11, size // CLUSTER, 4, 0]))))
+        file.write(record_of(0, data_of(CLUSTER, size // CLUSTER, size, bytes([0x11, size // CLUSTER, 4, 0]))))
         file.seek(table + FIRST * RECORD)
-        file.write(record(FIRST, runs(clusters, STREAM, pairs)))
+        file.write(record_of(FIRST, data_of(CLUSTER, clusters, STREAM, pairs)))
         file.seek(lcn * CLUSTER)
         shutil.copyfileobj(bytes_of, file, 1 << 20)
 
@@ -70,18 +51,6 @@ def calls(words):
     return next(row.split()[3] if len(row.split()) > 4 else row.split()[2] for row in rows if row.endswith("total"))
 
 
-def stock_volume(folder, content):
-    """A volume that the stock tools made with a file of these contents, and the number of its record."""
-    volume = folder / "stock"
-    with open(volume, "wb") as file:
-        file.truncate(STREAM + (64 << 20))
-    made = ["mkntfs", "-q", "-F", "-Q", "-s", "512", "-c", str(CLUSTER), volume]
-    subprocess.run(made, check=True, stdout=subprocess.DEVNULL, stderr=subprocess.DEVNULL)
-    subprocess.run(["ntfscp", "-q", "-f", volume, content, content.name], check=True, stdout=subprocess.DEVNULL, stderr=subprocess.DEVNULL)
-    rows = subprocess.run(["ntfsls", "-f", "-i", volume], check=True, stdout=subprocess.PIPE, text=True).stdout.splitlines()
-    return volume, next(row.split()[0] for row in rows if row.split()[1:] == [content.name])
-
-
 def main():
     program = built_program()
     with tempfile.TemporaryDirectory(dir=sys.argv[1] if len(sys.argv) > 1 else None) as folder:
@@ -92,8 +61,10 @@ def main():
                 file.write(number.to_bytes(8, "little") * 512)
         make(image, content)
         tools = {"cat": ["cat", content], "ntfscat": [program, "ntfscat", "-i", FIRST, image]}
-        if all(shutil.which(tool) for tool in ("mkntfs", "ntfscp", "ntfsls", "ntfscat")):
-            volume, number = stock_volume(folder, content)
+        if has_stock_tools():
+            volume = folder / "stock"
+            make_stock(volume, CLUSTER, STREAM + (64 << 20), content, [content.name])
+            number = stock_number(volume, content.name)
             tools["ntfscat, stock volume"] = [program, "ntfscat", "-i", number, volume]
             tools["stock ntfscat, stock volume"] = ["ntfscat", "-f", "-i", number, volume]
         plain = {}
