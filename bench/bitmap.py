@@ -124,7 +124,7 @@ def report(program, lines):
 
 
 def main():
-    with program_over(["ntfs_bitmap"], NAME, PROGRAM, proofs={"proofs/claim_all/Invariants.antt": INVARIANT}) as (program, rounds):
+    with program_over(["ntfs_bitmap"], NAME, PROGRAM, proofs={"claim_all": INVARIANT}) as (program, rounds):
         report(program, rounds)
 
 

@@ -16,13 +16,11 @@ import subprocess
 import sys
 import tempfile
 
-from measure import built_program, least
+from measure import QUIET, RECORD, built_program, has_stock_tools, least, make_stock, refixed, unfixed
 
-STOCK = ("mkntfs", "ntfscp", "ntfsls", "ntfscat")
 STREAM = 256 << 20
 RUNS = 10_000
 SPARE = 70  # files of a byte, whose records become extension records
-RECORD = 1024
 ROOM = 880  # bytes of mapping pairs in an extension record
 
 
@@ -31,23 +29,7 @@ def number_at(data, place, size, signed=False):
 
 
 def quiet(words):
-    subprocess.run([str(word) for word in words], check=True, stdout=subprocess.DEVNULL, stderr=subprocess.DEVNULL)
-
-
-def unfixed(block):
-    block, offset = bytearray(block), number_at(block, 4, 2)
-    for stride in range(RECORD // 512):
-        block[512 * stride + 510 : 512 * stride + 512] = block[offset + 2 + 2 * stride : offset + 4 + 2 * stride]
-    return block
-
-
-def refixed(block):
-    block, offset = bytearray(block), number_at(block, 4, 2)
-    for stride in range(RECORD // 512):
-        end = 512 * stride + 510
-        block[offset + 2 + 2 * stride : offset + 4 + 2 * stride] = block[end : end + 2]
-        block[end : end + 2] = block[offset : offset + 2]
-    return bytes(block)
+    subprocess.run([str(word) for word in words], **QUIET)
 
 
 def attributes(block):
@@ -189,10 +171,7 @@ def stock_volume(folder, cluster, content):
     """A volume that the stock tools made with a file of these contents and spare ones, and the number of each name's record."""
     volume, one = folder / "volume", folder / "one"
     one.write_bytes(b"1")
-    with open(volume, "wb") as file:
-        file.truncate(STREAM + (128 << 20))
-    quiet(["mkntfs", "-q", "-F", "-Q", "-s", "512", "-c", cluster, volume])
-    quiet(["ntfscp", "-q", "-f", volume, content, content.name])
+    make_stock(volume, cluster, STREAM + (128 << 20), content, [content.name])
     for number in range(SPARE):
         quiet(["ntfscp", "-q", "-f", volume, one, f"spare{number}"])
     rows = subprocess.run(["ntfsls", "-f", "-i", volume], check=True, stdout=subprocess.PIPE, text=True).stdout.splitlines()
@@ -232,8 +211,8 @@ def measure(tools, content, out):
 
 
 def main():
-    if missing := [tool for tool in STOCK if shutil.which(tool) is None]:
-        raise SystemExit(f"not installed: {', '.join(missing)} (Debian's package ntfs-3g)")
+    if not has_stock_tools():
+        raise SystemExit("the stock tools aren't installed (Debian's package ntfs-3g)")
     program = built_program()
     with tempfile.TemporaryDirectory(dir=sys.argv[1] if len(sys.argv) > 1 else None) as folder:
         folder = pathlib.Path(folder)

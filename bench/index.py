@@ -274,8 +274,8 @@ def report(program, lines):
 
 
 def main():
-    proofs = {f"proofs/{function}/Invariants.antt": proof_of(function, invariant) for function, invariant in INVARIANTS.items()}
-    with program_over(CRATES, NAME, PROGRAM, "ntfs_boot ntfs_index", proofs) as (program, rounds):
+    proofs = {function: proof_of(function, invariant) for function, invariant in INVARIANTS.items()}
+    with program_over(CRATES, NAME, PROGRAM, ("ntfs_boot", "ntfs_index"), proofs) as (program, rounds):
         report(program, rounds)
 
 

@@ -4,6 +4,7 @@ import contextlib
 import pathlib
 import re
 import shutil
+import struct
 import subprocess
 import tempfile
 import time
@@ -11,37 +12,41 @@ import time
 TOP = pathlib.Path(__file__).resolve().parent.parent
 CRATE = TOP / "crates" / "ntfsprogs"
 ROUNDS = 5
+RECORD = 1024
+QUIET = {"check": True, "stdout": subprocess.DEVNULL, "stderr": subprocess.DEVNULL}
 
 
 @contextlib.contextmanager
-def program_over(crates, name, program, needs=None, proofs=None):
-    """The path of a program over some crates of this repository, and the rounds that it printed when it ran without words.
+def program_over(crates, name, program, uses=None, proofs=None, words=()):
+    """The path of a program over some crates of this repository, and the rounds that it printed when it ran with these words.
 
     The program is proved, built and run in a temporary folder, beside copies of the crates, which are named lowest first. It
-    uses those in `needs`, or else the last of them, and byteorder. `proofs` has the texts of proof files by their names. A round is a line of
-    numbers that ends with `true`; one that ends with `false` stops the measure.
+    uses the last of them, or those that are named as such, and byteorder. `proofs` has the invariants of its functions by their
+    names. A round is a line of numbers that ends with `true`; one that ends with `false` stops the measure.
     """
-    used = {line.split(":")[0]: line for line in (TOP / "crates.txt").read_text().splitlines() if ":" in line}
+    needs = {line.split(":")[0]: line for line in (TOP / "crates.txt").read_text().splitlines() if ":" in line}
     with tempfile.TemporaryDirectory() as folder:
         top = pathlib.Path(folder)
         for crate in crates:
             shutil.copytree(TOP / "crates" / crate, top / "crates" / crate, ignore=shutil.ignore_patterns("must-fail", "out"))
         own = top / "crates" / name
-        for file, text in [("src/main.rt", program), *(proofs or {}).items()]:
+        files = {f"proofs/{function}/Invariants.antt": text for function, text in (proofs or {}).items()}
+        for file, text in {"src/main.rt": program, **files}.items():
             (own / file).parent.mkdir(parents=True, exist_ok=True)
             (own / file).write_text(text)
-        lines = [used[crate] for crate in crates] + [f"{name}: {needs or crates[-1]} byteorder"]
+        lines = [needs[crate] for crate in crates] + [f"{name}: {' '.join(uses or crates[-1:])} byteorder"]
         (top / "crates.txt").write_text("\n".join(lines) + "\n")
-        done = subprocess.run(["rt", "run"], cwd=own, capture_output=True, text=True)
+        command = ["rt", "run"] + (["--", *(str(word) for word in words)] if words else [])
+        done = subprocess.run(command, cwd=own, capture_output=True, text=True)
         rounds = re.findall(r"^(\d+(?: \d+)*) (true|false)$", done.stdout, re.MULTILINE)
         if not rounds or any(right != "true" for _, right in rounds):
             raise SystemExit(done.stdout + done.stderr)
         yield own / "out" / name, [tuple(int(number) for number in numbers.split()) for numbers, _ in rounds]
 
 
-def rounds_of(crates, name, program):
-    """The rounds of such a program, which uses the last of the crates."""
-    with program_over(crates, name, program) as (_, rounds):
+def rounds_of(*arguments, **named):
+    """The rounds of such a program alone."""
+    with program_over(*arguments, **named) as (_, rounds):
         return rounds
 
 
@@ -67,3 +72,68 @@ def least(words, output="/dev/null", ready=lambda: None):
             subprocess.run([str(word) for word in words], stdout=file, check=True)
             times.append(time.perf_counter() - start)
     return min(times)
+
+
+# ---- volumes
+
+def refixed(block):
+    """A record or an index block with its strides' last words saved in the array, and the array's number in their place."""
+    block = bytearray(block)
+    place, count = struct.unpack_from("<HH", block, 4)
+    for stride in range(1, count):
+        end = 512 * stride
+        block[place + 2 * stride:place + 2 * stride + 2] = block[end - 2:end]
+        block[end - 2:end] = block[place:place + 2]
+    return bytes(block)
+
+
+def unfixed(block):
+    """The same with the saved words put back."""
+    block = bytearray(block)
+    place, count = struct.unpack_from("<HH", block, 4)
+    for stride in range(1, count):
+        block[512 * stride - 2:512 * stride] = block[place + 2 * stride:place + 2 * stride + 2]
+    return bytes(block)
+
+
+def data_of(cluster, clusters, size, pairs):
+    """Unnamed data that isn't resident, in so many clusters, initialised whole."""
+    length = (0x40 + len(pairs) + 7) // 8 * 8
+    head = struct.pack("<IIBBHHHQQHH4xQQQ", 0x80, length, 1, 0, 0x40, 0, 0, 0, clusters - 1, 0x40, 0, clusters * cluster, size, size)
+    return (head + pairs).ljust(length, b"\0")
+
+
+def record_of(number, attributes):
+    """A record in use of this number with these attributes."""
+    used = 0x38 + len(attributes) + 8
+    head = struct.pack("<4sHHQHHHHIIQHHI", b"FILE", 0x30, 3, 0, 1, 1, 0x38, 1, used, RECORD, 0, 1, 0, number)
+    return refixed((head + struct.pack("<H6x", 1) + attributes + b"\xff\xff\xff\xff\0\0\0\0").ljust(RECORD, b"\0"))
+
+
+def boot_of(cluster, clusters, table, mirror):
+    """The boot sector of a volume of so many clusters of a size, with $MFT and its mirror at these."""
+    sector = bytearray(512)
+    sector[3:11] = b"NTFS    "
+    struct.pack_into("<HB", sector, 0x0B, 512, cluster // 512)
+    struct.pack_into("<QQQ", sector, 0x28, clusters * (cluster // 512), table, mirror)
+    sector[0x40], sector[0x44] = 0xF6, 0xF4
+    return bytes(sector)
+
+
+def has_stock_tools():
+    return all(shutil.which(tool) for tool in ("mkntfs", "ntfscp", "ntfsls", "ntfscat"))
+
+
+def make_stock(volume, cluster, size, content, names):
+    """A volume of the stock tools of this size, with files of these names, each with the content of a file."""
+    with open(volume, "wb") as file:
+        file.truncate(size)
+    subprocess.run(["mkntfs", "-q", "-F", "-Q", "-s", "512", "-c", str(cluster), volume], **QUIET)
+    for name in names:
+        subprocess.run(["ntfscp", "-q", "-f", volume, content, name], **QUIET)
+
+
+def stock_number(volume, name):
+    """The number of the record of a file in the root of a volume, as the stock tools see it."""
+    listed = subprocess.run(["ntfsls", "-f", "-i", volume], check=True, stdout=subprocess.PIPE, text=True).stdout
+    return next(row.split()[0] for row in listed.splitlines() if row.split()[1:] == [name])
