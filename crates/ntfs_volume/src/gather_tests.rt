@@ -594,3 +594,28 @@ fn device_calls_fail_alone(rt: HostRuntime) -> Result<(), Fail> {
     }
     Ok(())
 }
+
+/// Gathers a stream of many extents by a list in clusters: whether it was gathered. Where it wasn't, memory was
+/// wanting.
+fn gathering_is_whole(rt: &impl Abort, host: &HostRuntime) -> Result<bool, Fail> {
+    let alloc = host.alloc();
+    let Ok(bytes) = many(alloc, 1) else {
+        return Ok(false);
+    };
+    match gather(alloc, bytes) {
+        Ok(stream) => {
+            assert_eq!(rt; stream.extents(), 200);
+            Ok(true)
+        }
+        Err(fault) => {
+            assert!(rt; fault == VolumeFault::NoMemory);
+            Ok(false)
+        }
+    }
+}
+
+#[test]
+fn with_ample_memory_a_stream_is_gathered(rt: HostRuntime) -> Result<(), Fail> {
+    assert!(rt; gathering_is_whole(&rt, &rt)?);
+    Ok(())
+}
