@@ -8,4 +8,7 @@ mod records;
 mod surveying;
 
 pub use owners::{Owner, Survey};
-pub use surveying::survey;
+pub use surveying::{survey, survey_volume};
+
+#[cfg(test)]
+mod tests;

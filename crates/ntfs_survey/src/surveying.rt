@@ -14,7 +14,7 @@ use crate::findings::Findings;
 use crate::owners::Survey;
 use crate::records::take_records;
 use ntfs_base::Image;
-use ntfs_volume::{Scan, Table, VolumeFault};
+use ntfs_volume::{Scan, Table, Volume, VolumeFault};
 use std::alloc::{AllocError, Global};
 
 /// The most bytes of records that are read at once.
@@ -110,4 +110,19 @@ pub fn survey<G: Image>(alloc: Global, image: &mut G, table: &Table) -> Result<S
         Err(fault) => Err(fault),
         Ok(owners) => Ok(Survey::new(owners)),
     }
+}
+
+/// The survey of a volume by its kept table, as `survey` makes it.
+pub fn survey_volume<G: Image>(
+    alloc: Global,
+    volume: &mut Volume<'_, G>,
+) -> Result<Survey, VolumeFault>
+    requires held { HasClusters (G.seen volume.old.image.now).size volume.old.table }
+    ensures gives { IfTold G.Image volume.old.image.now (λ content. Gives volume_origin (λ survey. survey)
+        (volume_survey volume.old.table (cluster_at content volume.old.table.geometry.cluster)) result) }
+    ensures same_reference { volume.new.image.ghost_name ≡ volume.old.image.ghost_name }
+    ensures kept { volume.new.table ≡ volume.old.table }
+    ensures reads { OnlyReads G.Image volume_origin volume.old.image.now volume.new.image.now result }
+{
+    survey(alloc, &mut *volume.image, &volume.table)
 }
