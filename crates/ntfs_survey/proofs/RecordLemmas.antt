@@ -41,29 +41,30 @@ pub take-baad : (n r : ℕ) (found : Found) (raw : List ℕ) → is_in_use raw �
 unfolding slot_taken located_slot
 take-baad n r found raw idle torn = rw (idle, torn) refl
 
-take-live : (n r : ℕ) (found : Found) (raw : List ℕ) (said : Option FileRecord) → is_in_use raw ≡ true → record_in raw ≡ said
-    → slot_taken n r found (located_slot r (Some raw)) ≡ slot_taken n r found (live_located r said)
+-- one in use, by what its bytes say
+pub take-live : (n r : ℕ) (found : Found) (raw : List ℕ) → is_in_use raw ≡ true → slot_taken n r found (located_slot r (Some raw)) ≡ slot_taken n r found (live_located r (record_in raw))
 unfolding located_slot
-take-live n r found raw said live is = rw live (ap (λ said. slot_taken n r found (live_located r said)) is)
+take-live n r found raw live = rw live refl
 
-pub take-unread : (n r : ℕ) (found : Found) (raw : List ℕ) → is_in_use raw ≡ true → record_in raw ≡ None → slot_taken n r found (located_slot r (Some raw)) ≡ Err (unsound r)
+pub take-unread : (n r : ℕ) (found : Found) (said : Option FileRecord) → said ≡ None → slot_taken n r found (live_located r said) ≡ Err (unsound r)
 unfolding slot_taken
-take-unread n r found raw live is = take-live n r found raw None live is
+take-unread n r found said is = ap (λ said. slot_taken n r found (live_located r said)) is
 
-by-number : (n r : ℕ) (found : Found) (file : FileRecord) (own : Bool) → tells_own r file.layout.number ≡ own
-    → slot_taken n r found (live_located r (Some file)) ≡ slot_taken n r found (if own then sound_located file else unsound_located)
-by-number n r found file own is = ap (λ b. slot_taken n r found (if b then sound_located file else unsound_located)) is
+by-number : (n r : ℕ) (found : Found) (said : Option FileRecord) (file : FileRecord) (own : Bool) → said ≡ Some file → tells_own r file.layout.number ≡ own
+    → slot_taken n r found (live_located r said) ≡ slot_taken n r found (if own then sound_located file else unsound_located)
+by-number n r found said file own said_is is =
+    ap (λ said. slot_taken n r found (live_located r said)) said_is ∙ ap (λ b. slot_taken n r found (if b then sound_located file else unsound_located)) is
 
-pub take-other : (n r : ℕ) (found : Found) (raw : List ℕ) (file : FileRecord) → is_in_use raw ≡ true → record_in raw ≡ Some file → tells_own r file.layout.number ≡ false
-    → slot_taken n r found (located_slot r (Some raw)) ≡ Err (unsound r)
+pub take-other : (n r : ℕ) (found : Found) (said : Option FileRecord) (file : FileRecord) → said ≡ Some file → tells_own r file.layout.number ≡ false
+    → slot_taken n r found (live_located r said) ≡ Err (unsound r)
 unfolding slot_taken
-take-other n r found raw file live is other = take-live n r found raw (Some file) live is ∙ by-number n r found file false other
+take-other n r found said file said_is other = by-number n r found said file false said_is other
 
-pub take-own : (n r : ℕ) (found more : Found) (raw : List ℕ) (file : FileRecord) → is_in_use raw ≡ true → record_in raw ≡ Some file → tells_own r file.layout.number ≡ true
-    → more ≡ all_taken n r found (map shown_placed (placed_of file)) → slot_taken n r found (located_slot r (Some raw)) ≡ ok_found more
+pub take-own : (n r : ℕ) (found more : Found) (said : Option FileRecord) (file : FileRecord) → said ≡ Some file → tells_own r file.layout.number ≡ true
+    → more ≡ all_taken n r found (map shown_placed (placed_of file)) → slot_taken n r found (live_located r said) ≡ ok_found more
 unfolding slot_taken
-take-own n r found more raw file live is own taken =
-    take-live n r found raw (Some file) live is ∙ by-number n r found file true own
+take-own n r found more said file said_is own taken =
+    by-number n r found said file true said_is own
     ∙ ap (λ shown. ok_found (all_taken n r found shown)) (located-shown (placed_of file)) ∙ ap ok_found (sym taken)
 
 -- ---- records in bytes

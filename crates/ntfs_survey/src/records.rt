@@ -8,7 +8,7 @@ ghost use Rattle.ntfs_record.specs.Slots as spec;
 ghost use Rattle.ntfs_record.specs.Views.{placed_of, shown_placed};
 ghost use Rattle.ntfs_survey.specs.Surveying.{all_taken, slot_taken, slots_in, slots_taken};
 ghost use Rattle.ntfs_volume.specs.Fault.{volume_origin};
-ghost use Rattle.ntfs_volume.specs.Located.{located_slot};
+ghost use Rattle.ntfs_volume.specs.Located.{live_located, located_slot};
 ghost use Rattle.ntfs_volume.specs.Records as faults;
 
 use crate::findings::Findings;
@@ -64,8 +64,8 @@ fn take_attributes(
     Ok(())
 }
 
-/// Takes the record of a number, which has these bytes; those of a record in use are unfixed in place.
-fn take_record(
+/// Takes the record of a number, which is in use and has these bytes, which are unfixed in place.
+fn take_live(
     alloc: Global,
     number: u64,
     raw: &mut [u8],
@@ -74,15 +74,9 @@ fn take_record(
 ) -> Result<(), VolumeFault>
     requires { HasWholeStrides raw.old }
     ensures gives { Gives volume_origin (λ done. findings.new)
-        (slot_taken clusters number findings.old (located_slot number (Some raw.old))) result }
+        (slot_taken clusters number findings.old (live_located number (spec.record_in raw.old))) result }
     ensures judged { IsJudged volume_origin result }
 {
-    if !is_in_use(raw) {
-        if begins_baad(raw) {
-            return Err(unsound(number));
-        }
-        return Ok(());
-    }
     if unfix(raw, Magic::File).is_err() {
         return Err(unsound(number));
     }
@@ -96,6 +90,28 @@ fn take_record(
             Ok(())
         }
     }
+}
+
+/// Takes the record of a number, which has these bytes.
+fn take_record(
+    alloc: Global,
+    number: u64,
+    raw: &mut [u8],
+    clusters: u64,
+    findings: &mut Findings,
+) -> Result<(), VolumeFault>
+    requires { HasWholeStrides raw.old }
+    ensures gives { Gives volume_origin (λ done. findings.new)
+        (slot_taken clusters number findings.old (located_slot number (Some raw.old))) result }
+    ensures judged { IsJudged volume_origin result }
+{
+    if is_in_use(raw) {
+        return take_live(alloc, number, raw, clusters, findings);
+    }
+    if begins_baad(raw) {
+        return Err(unsound(number));
+    }
+    Ok(())
 }
 
 /// Takes the records from a number on that stand in these bytes, one behind the other.

@@ -103,8 +103,8 @@ pub fn survey<G: Image>(alloc: Global, image: &mut G, table: &Table) -> Result<S
     ensures reads { OnlyReads G.Image volume_origin image.old image.new result }
 {
     let mut findings = Findings::new(alloc);
-    if let Err(fault) = take_all(alloc, image, table, &mut findings) {
-        return Err(fault);
+    if let Err(refusal) = take_all(alloc, image, table, &mut findings) {
+        return Err(refusal);
     }
     match findings.finish() {
         Err(fault) => Err(fault),

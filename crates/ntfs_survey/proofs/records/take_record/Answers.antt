@@ -1,40 +1,18 @@
 use Rattle.std.proofs.Common.{ap, sym, ◌∙◌, Err}
-use Rattle.ntfs_record.specs.Slots.{if_parsed, tells_own}
-use Rattle.ntfs_record.proofs.SlotLemmas.{record-torn, record-whole}
-use Rattle.ntfs_survey.proofs.RecordLemmas.{take-baad, take-idle, take-other, take-own, take-unread}
+use Rattle.ntfs_volume.specs.Fault.{volume_origin}
+use Rattle.ntfs_survey.proofs.RecordLemmas.{take-baad, take-idle, take-live}
+use Rattle.ntfs_survey.proofs.SlotsLemmas.{gives-by}
 use Rattle.ntfs_survey.proofs.records.take_record.Goals as goal
+
+pub returns-then-is_in_use-clause-gives : goal.returns-then-is_in_use-clause-gives
+returns-then-is_in_use-clause-gives c =
+    gives-by volume_origin _ _ _ _ (take-live c.args.clusters c.args.number c.args.findings.now c.args.raw.now (sym c.is_in_use.ensures ∙ c.if-is_in_use.true)) c.take_live.ensures.gives
 
 pub returns-then-begins_baad-clause-gives : goal.returns-then-begins_baad-clause-gives
 returns-then-begins_baad-clause-gives c settled =
-    take-baad c.args.clusters c.args.number c.args.findings.now c.args.raw.now (sym c.is_in_use.ensures ∙ c.if-not-is_in_use.true) (sym c.begins_baad.ensures ∙ c.if-begins_baad.true)
+    take-baad c.args.clusters c.args.number c.args.findings.now c.args.raw.now (sym c.is_in_use.ensures ∙ c.if-is_in_use.false) (sym c.begins_baad.ensures ∙ c.if-begins_baad.true)
     ∙ ap Err (sym c.unsound.ensures)
 
-pub returns-then-not-is_in_use-clause-gives : goal.returns-then-not-is_in_use-clause-gives
-returns-then-not-is_in_use-clause-gives c =
-    take-idle c.args.clusters c.args.number c.args.findings.now c.args.raw.now (sym c.is_in_use.ensures ∙ c.if-not-is_in_use.true) (sym c.begins_baad.ensures ∙ c.if-begins_baad.false)
-
-pub returns-then-is_err-clause-gives : goal.returns-then-is_err-clause-gives
-returns-then-is_err-clause-gives c settled =
-    take-unread c.args.clusters c.args.number c.args.findings.now c.args.raw.now (sym c.is_in_use.ensures ∙ c.if-not-is_in_use.false)
-    (record-torn c.args.raw.now c.unfix.new.block c.unfix.result c.unfix.ensures.exact (sym c.is_err.ensures.value ∙ c.if-is_err.true))
-    ∙ ap Err (sym c.unsound-then-is_err.ensures)
-
-pub returns-then-not-tells_own-clause-gives : goal.returns-then-not-tells_own-clause-gives
-returns-then-not-tells_own-clause-gives c settled =
-    take-other c.args.clusters c.args.number c.args.findings.now c.args.raw.now c.in-Ok.view (sym c.is_in_use.ensures ∙ c.if-not-is_in_use.false)
-    (record-whole c.args.raw.now c.unfix.new.block c.unfix.result c.unfix.ensures.exact (sym c.is_err.ensures.value ∙ c.if-is_err.false) ∙ ap if_parsed (sym c.in-Ok.ensures.exact))
-    (ap (tells_own c.args.number) (sym c.number.ensures) ∙ sym c.tells_own.ensures ∙ c.if-not-tells_own.true)
-    ∙ ap Err (sym c.unsound-then-not-tells_own.ensures)
-
-pub returns-in-Err-clause-gives : goal.returns-in-Err-clause-gives
-returns-in-Err-clause-gives c settled =
-    take-unread c.args.clusters c.args.number c.args.findings.now c.args.raw.now (sym c.is_in_use.ensures ∙ c.if-not-is_in_use.false)
-    (record-whole c.args.raw.now c.unfix.new.block c.unfix.result c.unfix.ensures.exact (sym c.is_err.ensures.value ∙ c.if-is_err.false) ∙ ap if_parsed (sym c.in-Err.ensures.exact))
-    ∙ ap Err (sym c.unsound-in-Err.ensures)
-
-pub returns-in_ok-take_attributes-in-Ok-clause-gives : goal.returns-in_ok-take_attributes-in-Ok-clause-gives
-returns-in_ok-take_attributes-in-Ok-clause-gives c =
-    take-own c.args.clusters c.args.number c.args.findings.now c.take_attributes.new.findings c.args.raw.now c.in-Ok.view (sym c.is_in_use.ensures ∙ c.if-not-is_in_use.false)
-    (record-whole c.args.raw.now c.unfix.new.block c.unfix.result c.unfix.ensures.exact (sym c.is_err.ensures.value ∙ c.if-is_err.false) ∙ ap if_parsed (sym c.in-Ok.ensures.exact))
-    (ap (tells_own c.args.number) (sym c.number.ensures) ∙ sym c.tells_own.ensures ∙ c.if-not-tells_own.false)
-    c.in_ok-take_attributes-in-Ok.ensures
+pub returns-clause-gives : goal.returns-clause-gives
+returns-clause-gives c =
+    take-idle c.args.clusters c.args.number c.args.findings.now c.args.raw.now (sym c.is_in_use.ensures ∙ c.if-is_in_use.false) (sym c.begins_baad.ensures ∙ c.if-begins_baad.false)

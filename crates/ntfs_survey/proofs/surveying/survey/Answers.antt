@@ -7,7 +7,7 @@ use Rattle.ntfs_survey.proofs.surveying.survey.Goals as goal
 pub returns-in-Err-clause-gives : goal.returns-in-Err-clause-gives
 returns-in-Err-clause-gives g c told settled =
     let o = c.args.table.now in
-    survey-refused o.geometry.clusters (slots_of o.geometry o.map (cluster_at (g.G.Image.seen c.args.image.now).content o.geometry.cluster)) c.new-findings.result c.in-Err.fault c.new-findings.ensures
+    survey-refused o.geometry.clusters (slots_of o.geometry o.map (cluster_at (g.G.Image.seen c.args.image.now).content o.geometry.cluster)) c.new-findings.result c.in-Err.refusal c.new-findings.ensures
     (c.in-Err.ensures.gives told settled)
 
 pub returns-in-Err-finish-clause-gives : goal.returns-in-Err-finish-clause-gives
