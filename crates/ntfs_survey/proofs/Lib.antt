@@ -3,3 +3,4 @@ mod FoundLemmas
 mod FoldLemmas
 mod RecordLemmas
 mod SlotsLemmas
+mod BelowLemmas

@@ -2,7 +2,7 @@
 use Rattle.std.proofs.Common.{min, ◌^◌, ◌≡◌, ◌+◌, ◌-◌, ◌*◌, ◌/◌, ◌<◌, ◌≤◌, ℕ, zero, suc, List, ◌∷◌, drop, length, take, Option, Some, Result, Ok, Err, refl, sym, ap, ◌∙◌, arith, subst}
 use Rattle.std.proofs.Math.Nat.{div-mul-le_self}
 use Rattle.std.proofs.lemmas.Nat.{le-div}
-use Rattle.std.proofs.lemmas.List.{drop-drop, drop-take, length-drop}
+use Rattle.std.proofs.lemmas.List.{drop-drop, drop-take, length-drop, length-take-le}
 use Rattle.ntfs_base.specs.Bytes.{raw_of}
 use Rattle.ntfs_base.specs.Frames.{Gives, Origin, ◌>>=◌}
 use Rattle.ntfs_base.proofs.BytesLemmas.{raw_of-within, take-drop-take}
@@ -194,3 +194,13 @@ scan-some o s room all size is least most size_is all_is room_is lt =
     let count : taken_count s room ≡ min (room / size) (all - s.next) =
     ap (λ (t : Opened). taken_by room t s.next) is ∙ ap (λ k. min (room / k) (initialised_count o.geometry o.map - s.next)) (sym size_is) ∙ ap (λ n. min (room / size) (n - s.next)) (sym all_is) in
     omega (arith, count, count-some all s.next size room least most room_is lt)
+
+-- the bytes of the records that a buffer takes
+pub chunk-length : (s : Scanning) (o : Opened) (g : Geometry) (count size room : ℕ) (buffer : List ℕ) → s.table ≡ o → g ≡ o.geometry → size ≡ g.record_size → count ≡ taken_count s room → room ≡ length buffer
+    → (count * size ≤ length buffer) × (length (take (count * size) buffer) ≡ count * g.record_size)
+chunk-length s o g count size room buffer is view size_is count_is room_is =
+    let same : count * size ≡ count * s.table.geometry.record_size =
+    ap (λ k. count * k) (size_is ∙ ap (λ (g : Geometry). g.record_size) view ∙ sym (ap (λ (t : Opened). t.geometry.record_size) is)) in
+    let fits = taken-fits count s.table.geometry.record_size room _ count_is in
+    let long : count * size ≤ length buffer = omega (arith, fits, same, room_is) in
+    (long, length-take-le (count * size) buffer long ∙ ap (λ k. count * k) size_is)

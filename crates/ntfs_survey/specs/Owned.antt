@@ -1,6 +1,6 @@
 -- Who owns which clusters of a volume (the Linux-NTFS documentation, "Attribute Header" and "Data Runs", on where an
 -- attribute's clusters are told; the words and the order are ours).
-use Rattle.std.specs.Prelude.{◌-◌, ◌+◌, ◌==◌, ◌&&◌, ◌||◌, not, ℕ, suc, Bool, List, [], ◌∷◌, ◌++◌, length, Option, Some, None, Result, Ok, if◌then◌else◌}
+use Rattle.std.specs.Prelude.{◌≡◌, ◌≤◌, ◌⊎◌, ◌-◌, ◌+◌, ◌==◌, ◌&&◌, ◌||◌, not, ℕ, suc, Bool, List, [], ◌∷◌, ◌++◌, length, Option, Some, None, Result, Ok, if◌then◌else◌}
 use Rattle.std.specs.List.{flat_map, list_all}
 use Rattle.ntfs_base.specs.Frames.{◌>>=◌}
 use Rattle.ntfs_base.specs.declared.refusal.Rule.TheVariants as rule
@@ -82,6 +82,11 @@ owners_of slots = each_attribute attribute_owners 0 slots
 abbrev pub owner_claims : Owner → List (Claim ℕ)
 owner_claims owner = cell_claims owner.number owner.place owner.vcn (row owner.length (Some owner.first))
 
+-- an owner has clusters, all below n
+pub record LiesBelow (n : ℕ) (owner : Owner) : Type 0 where
+  pub some : 1 ≤ owner.length
+  pub within : owner.first + owner.length ≤ n
+
 -- ---- the survey
 
 -- the record keeps rule C4: one in use can be read and tells no other number than its own, and none is marked as torn
@@ -110,3 +115,10 @@ survey_of n slots = do
 -- the survey of an opened volume, where f gives the bytes of each cluster
 abbrev pub volume_survey : Opened → (ℕ → List ℕ) → Result (List Owner) VolumeFault
 volume_survey o f = survey_of o.geometry.clusters (slots_of o.geometry o.map f)
+
+-- a refusal that a survey can give, whatever the image tells
+abbrev pub IsSurveyFault : VolumeFault → Type 0
+IsSurveyFault (volume.Damaged broken number) = (broken ≡ rule.C4) ⊎ (broken ≡ rule.C7)
+IsSurveyFault volume.ReadFault = Unit {0}
+IsSurveyFault volume.NoMemory = Unit {0}
+IsSurveyFault other = ⊥

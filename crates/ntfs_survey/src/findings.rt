@@ -1,11 +1,11 @@
 //! What a survey has found so far.
 
-ghost use Rattle.std.specs.Prelude.{◌≡◌, ◌≤◌, ◌<◌, ◌+◌, ◌^◌, ◌==◌, ◌&&◌, length, true, is_some, OnOk, IfOk};
+ghost use Rattle.std.specs.Prelude.{◌≡◌, ◌≤◌, ◌<◌, ◌+◌, ◌^◌, ◌==◌, ◌&&◌, length, true, is_some, OnOk, IfErr, IfOk};
 ghost use Rattle.ntfs_base.specs.Frames.{Gives, IsJudged};
 ghost use Rattle.ntfs_record.specs.Views.{HasBounds, shown_view};
 ghost use Rattle.ntfs_runs.specs.Cells.{are_cells};
 ghost use Rattle.ntfs_runs.specs.Clusters.{AreSpellable, vcns};
-ghost use Rattle.ntfs_survey.specs.Owned.{run_owner, run_owners};
+ghost use Rattle.ntfs_survey.specs.Owned.{IsSurveyFault, run_owner, run_owners};
 ghost use Rattle.ntfs_survey.specs.Surveying.{AreRunsOf, finished, nothing_found, pairs_taken, shown_taken, with_owners, wrong_in};
 ghost use Rattle.ntfs_volume.specs.Fault.{volume_origin};
 
@@ -182,6 +182,8 @@ impl Findings {
     /// The owners, where all mapping pairs were right.
     pub(crate) fn finish(self) -> Result<Vec<Owner>, VolumeFault>
         ensures gives { Gives volume_origin (λ owners. owners.items) (finished self) result }
+        ensures owners { IfOk result (λ owners. owners.items ≡ self.owners) }
+        ensures listed { IfErr result IsSurveyFault }
         ensures judged { IsJudged volume_origin result }
     {
         match self.wrong {

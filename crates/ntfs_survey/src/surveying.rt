@@ -1,9 +1,9 @@
 //! The records of a volume read one after another, and surveyed.
 
-ghost use Rattle.std.specs.Prelude.{◌≡◌, ◌≤◌, ◌<◌, ◌+◌, ◌*◌, ◌/◌, ◌^◌, length, min, vec_len, IfOk, OnOk};
+ghost use Rattle.std.specs.Prelude.{◌≡◌, ◌≤◌, ◌<◌, ◌+◌, ◌*◌, ◌/◌, ◌^◌, length, min, vec_len, All, IfErr, IfOk, OnOk};
 ghost use Rattle.ntfs_base.specs.Bytes.{cluster_at};
 ghost use Rattle.ntfs_base.specs.Frames.{Gives, IfTold, OnlyReads};
-ghost use Rattle.ntfs_survey.specs.Owned.{volume_survey};
+ghost use Rattle.ntfs_survey.specs.Owned.{IsSurveyFault, LiesBelow, volume_survey};
 ghost use Rattle.ntfs_survey.specs.Surveying.{record_at, slots_taken};
 ghost use Rattle.ntfs_volume.specs.Fault.{volume_origin};
 ghost use Rattle.ntfs_volume.specs.Located.{slots_from, slots_of};
@@ -43,10 +43,13 @@ fn take_next<G: Image>(
     requires table { scan.old.table ≡ table.now }
     requires few { scan.old.next < 2 ^ 32 }
     requires room { length buffer.old ≤ 2 ^ 20 }
+    requires below { All (LiesBelow table.now.geometry.clusters) findings.old.owners }
     ensures gives { IfTold G.Image image.old (λ content. Gives volume_origin (λ done. findings.new)
         (slots_taken table.now.geometry.clusters scan.old.next findings.old
         (slots_from (record_at table.now (cluster_at content table.now.geometry.cluster)) scan.old.next
         (taken_count scan.old (length buffer.old)))) result) }
+    ensures below { OnOk result (All (LiesBelow table.now.geometry.clusters) findings.new.owners) }
+    ensures listed { IfErr result IsSurveyFault }
     ensures next { OnOk result (scan.new
         ≡ scan_at table.now (scan.old.next + taken_count scan.old (length buffer.old))) }
     ensures reads { OnlyReads G.Image volume_origin image.old image.new result }
@@ -76,9 +79,12 @@ fn take_all<G: Image>(
     findings: &mut Findings,
 ) -> Result<(), VolumeFault>
     requires held { HasClusters (G.seen image.old).size table.now }
+    requires below { All (LiesBelow table.now.geometry.clusters) findings.old.owners }
     ensures gives { IfTold G.Image image.old (λ content. Gives volume_origin (λ done. findings.new)
         (slots_taken table.now.geometry.clusters 0 findings.old (slots_of table.now.geometry table.now.map
         (cluster_at content table.now.geometry.cluster))) result) }
+    ensures below { OnOk result (All (LiesBelow table.now.geometry.clusters) findings.new.owners) }
+    ensures listed { IfErr result IsSurveyFault }
     ensures reads { OnlyReads G.Image volume_origin image.old image.new result }
 {
     let count = table.initialised_count();
@@ -95,11 +101,14 @@ fn take_all<G: Image>(
 /// The survey of a volume: every record that lies wholly in the initialised part of $MFT is read once, by way of one
 /// buffer of at most a mebibyte. Beside it there is memory for the owners.
 ///
-/// Where more than one thing is wrong, the first record that breaks rule C4 is named, then the first that breaks C7.
+/// Whatever the image tells, the owners' clusters lie on the volume. Where more than one thing is wrong, the first record
+/// that breaks rule C4 is named, then the first that breaks C7.
 pub fn survey<G: Image>(alloc: Global, image: &mut G, table: &Table) -> Result<Survey, VolumeFault>
     requires held { HasClusters (G.seen image.old).size table.now }
     ensures gives { IfTold G.Image image.old (λ content. Gives volume_origin (λ survey. survey)
         (volume_survey table.now (cluster_at content table.now.geometry.cluster)) result) }
+    ensures below { IfOk result (All (LiesBelow table.now.geometry.clusters)) }
+    ensures listed { IfErr result IsSurveyFault }
     ensures reads { OnlyReads G.Image volume_origin image.old image.new result }
 {
     let mut findings = Findings::new(alloc);
@@ -120,6 +129,8 @@ pub fn survey_volume<G: Image>(
     requires held { HasClusters (G.seen volume.old.image.now).size volume.old.table }
     ensures gives { IfTold G.Image volume.old.image.now (λ content. Gives volume_origin (λ survey. survey)
         (volume_survey volume.old.table (cluster_at content volume.old.table.geometry.cluster)) result) }
+    ensures below { IfOk result (All (LiesBelow volume.old.table.geometry.clusters)) }
+    ensures listed { IfErr result IsSurveyFault }
     ensures same_reference { volume.new.image.ghost_name ≡ volume.old.image.ghost_name }
     ensures kept { volume.new.table ≡ volume.old.table }
     ensures reads { OnlyReads G.Image volume_origin volume.old.image.now volume.new.image.now result }

@@ -19,6 +19,7 @@ fills-init g c =
       counts = record { reads = omega arith; writes = omega arith };
       table = ap (λ (s : Scanning). s.table) c.scan-scan.ensures;
       room = refl;
+      below = c.requires.below;
       there = omega (arith, next);
       same = λ told. rest-all c.args.table.now.geometry.clusters c.args.table.now (cluster_at (g.G.Image.seen c.args.image.now).content c.args.table.now.geometry.cluster) c.scan-scan.result.next c.args.findings.now next;
     }
@@ -61,6 +62,7 @@ fills-preserved g c =
       counts = record { reads = omega (arith, c.in_default.ensures.reads.counts.reads, c.fills.invariant.counts.reads); writes = omega (arith, c.in_default.ensures.reads.counts.writes, c.fills.invariant.counts.writes) };
       table = ap (λ (s : Scanning). s.table) c.in_default.ensures.next;
       room = c.fills.invariant.room;
+      below = c.in_default.ensures.below;
       there = omega (arith, next, fits);
       same = λ told.
           let taken = told_still g.G.Image _ _ (λ content. ◌≡◌ {A = Result Found VolumeFault} (slots_taken n s.next c.fills.findings
