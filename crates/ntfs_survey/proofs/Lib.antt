@@ -1,4 +1,5 @@
 mod OwnedLemmas
+mod ClaimLemmas
 mod FoundLemmas
 mod FoldLemmas
 mod RecordLemmas

@@ -1,14 +1,33 @@
 //! Laws of the definitions. Each function does nothing, and its contract is the law.
 
-ghost use Rattle.std.specs.Prelude.{◌≡◌, ℕ, List};
-ghost use Rattle.std.specs.List.{flat_map};
-ghost use Rattle.ntfs_record.specs.FileRecord.{Laid};
+ghost use Rattle.std.specs.Prelude.{◌≡◌, ℕ, false, map, Contains, List, Some, slice_get};
+ghost use Rattle.std.specs.List.{AllByRecursion, flat_map};
+ghost use Rattle.ntfs_record.specs.FileRecord.{Attribute, Laid};
 ghost use Rattle.ntfs_record.specs.Slots.{Slot};
+ghost use Rattle.ntfs_runs.specs.Cells.{Cells};
+ghost use Rattle.ntfs_survey.specs.Laws.{IsOfCell, claim_at, map_claim};
 ghost use Rattle.ntfs_survey.specs.Owned.{owned, owner_claims, owners_of};
-ghost use Rattle.ntfs_volume.specs.Located.{Located, with_cells};
+ghost use Rattle.ntfs_volume.specs.Laws.{in_slots};
+ghost use Rattle.ntfs_volume.specs.Located.{Located, slot_at, with_cells};
 
 /// The owners, taken cluster by cluster in their order, are all owned clusters in theirs.
 pub fn owners_are_of_owned_clusters()
     ensures { (n : ℕ) (slots : List (Slot (Located (Laid (List ℕ)))))
         → flat_map owner_claims (owners_of slots) ≡ owned (with_cells n slots) }
+{}
+
+/// A cluster is owned exactly where a cell of an attribute that isn't resident is that cluster: by the attribute's
+/// record, at its place, at the cell's VCN.
+pub fn owned_clusters_are_cells<X>()
+    ensures only { (slots : List (Slot (Located (Laid (Cells X))))) → AllByRecursion (IsOfCell slots) (owned slots) }
+    ensures each { (slots : List (Slot (Located (Laid (Cells X))))) (r : ℕ)
+        (a : Attribute (Located (Laid (Cells X)))) (i : ℕ) (k : X) → Contains (slot_at slots r).attributes a
+        → a.face.is_resident ≡ false → slice_get a.payload.payload.runs.cells i ≡ Some (Some k)
+        → Contains (owned slots) (claim_at r a i k) }
+{}
+
+/// With something else in place of each cluster and place, the same clusters are owned, with that in place of them.
+pub fn owned_clusters_map<X, Y>()
+    ensures { (moved : ℕ → ℕ) (f : X → Y) (slots : List (Slot (Located (Laid (Cells X)))))
+        → owned (in_slots moved f slots) ≡ map (map_claim moved f) (owned slots) }
 {}
