@@ -20,7 +20,7 @@ there x y xs has = (suc has.0, omega (arith, has.1), has.2)
 
 -- ---- all of them
 
-all-append : {A : Type 0} → (P : A → Type 0) (xs ys : List A) → AllByRecursion P xs → AllByRecursion P ys → AllByRecursion P (xs ++ ys)
+pub all-append : {A : Type 0} → (P : A → Type 0) (xs ys : List A) → AllByRecursion P xs → AllByRecursion P ys → AllByRecursion P (xs ++ ys)
 all-append P [] ys one two = two
 all-append P (x ∷ xs) ys one two = (one.0, all-append P xs ys one.1 two)
 
@@ -37,7 +37,7 @@ all-each P f r (s ∷ slots) all =
     (all-flat P (f r) s.attributes (λ a has. subst (λ (n : ℕ). AllByRecursion P (f n a)) (let e : r + 0 ≡ r = omega arith in e) (all 0 a has)))
     (all-each P f (suc r) slots (λ i a has. subst (λ (n : ℕ). AllByRecursion P (f n a)) (let e : r + suc i ≡ suc r + i = omega arith in e) (all (suc i) a has)))
 
-all-cells : {X : Type 0} → (P : Claim X → Type 0) (r place vcn : ℕ) (cells : List (Option X))
+pub all-cells : {X : Type 0} → (P : Claim X → Type 0) (r place vcn : ℕ) (cells : List (Option X))
     → ((i : ℕ) (k : X) → slice_get cells i ≡ Some (Some k) → P (record { cluster = k; number = r; place = place; vcn = vcn + i })) → AllByRecursion P (cell_claims r place vcn cells)
 unfolding cell_claims
 all-cells P r place vcn [] all = tt
@@ -48,7 +48,7 @@ all-cells P r place vcn (Some x ∷ cells) all = (
   all-cells P r place (suc vcn) cells (λ i k is. subst (λ (n : ℕ). P (record { cluster = k; number = r; place = place; vcn = n })) (let e : vcn + suc i ≡ suc vcn + i = omega arith in e) (all (suc i) k is)),
 )
 
-all-runs : {X : Type 0} → (P : Claim X → Type 0) (resident : Bool) (claims : List (Claim X)) → (resident ≡ false → AllByRecursion P claims) → AllByRecursion P (if resident then [] else claims)
+pub all-runs : {X : Type 0} → (P : Claim X → Type 0) (resident : Bool) (claims : List (Claim X)) → (resident ≡ false → AllByRecursion P claims) → AllByRecursion P (if resident then [] else claims)
 all-runs P true claims all = tt
 all-runs P false claims all = all refl
 

@@ -1,5 +1,6 @@
 mod OwnedLemmas
 mod ClaimLemmas
+mod OrderLemmas
 mod FoundLemmas
 mod FoldLemmas
 mod RecordLemmas
