@@ -34,8 +34,8 @@ pub fn owned_clusters_map<X, Y>()
         → owned (in_slots moved f slots) ≡ map (map_claim moved f) (owned slots) }
 {}
 
-/// Owned clusters are listed by record, by place, by VCN, all ascending: of records whose attributes stand one behind the
-/// other, as those of a volume do.
+/// Owned clusters are listed by record, by place, by VCN, all ascending: of records whose attributes stand one behind
+/// the other, as those of a volume do.
 pub fn owned_clusters_ascend<X>()
     ensures ascend { (slots : List (Slot (Located (Laid (Cells X))))) → AreInOrder slots
         → Ascend ComesBefore (owned slots) }

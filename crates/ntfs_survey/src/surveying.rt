@@ -101,8 +101,8 @@ fn take_all<G: Image>(
 /// The survey of a volume: every record that lies wholly in the initialised part of $MFT is read once, by way of one
 /// buffer of at most a mebibyte. Beside it there is memory for the owners.
 ///
-/// Whatever the image tells, the owners' clusters lie on the volume. Where more than one thing is wrong, the first record
-/// that breaks rule C4 is named, then the first that breaks C7.
+/// Whatever the image tells, the owners' clusters lie on the volume. Where more than one thing is wrong, the first
+/// record that breaks rule C4 is named, then the first that breaks C7.
 pub fn survey<G: Image>(alloc: Global, image: &mut G, table: &Table) -> Result<Survey, VolumeFault>
     requires held { HasClusters (G.seen image.old).size table.now }
     ensures gives { IfTold G.Image image.old (λ content. Gives volume_origin (λ survey. survey)

@@ -113,8 +113,8 @@ const FURTHER: Runs<'static> = Runs {
     pairs: &[0x11, 4, 44, 0],
 };
 
-/// 64 clusters and 32 records. Record 16 has two streams, and its extension record 17 one extent; record 18 has runs and
-/// isn't in use.
+/// 64 clusters and 32 records. Record 16 has two streams, and its extension record 17 one extent; record 18 has runs
+/// and isn't in use.
 fn small(alloc: Global) -> Result<Vec<u8>, AllocError> {
     let mut bytes = volume(alloc, 64, 32)?;
     record(&mut bytes, 16, 0, &[HOLED, AGAIN]);
