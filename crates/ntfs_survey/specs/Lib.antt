@@ -1,0 +1,5 @@
+pub use Rattle.ntfs_base.specs.Bytes
+pub use Rattle.ntfs_base.specs.Frames
+pub mod Owned
+pub mod Laws
+pub mod Surveying
