@@ -1,0 +1,5 @@
+mod ReadLemmas
+mod EmptyLemmas
+mod DirectoryLemmas
+mod AllocationLemmas
+mod NextLemmas

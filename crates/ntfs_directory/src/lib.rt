@@ -1,0 +1,11 @@
+//! Directories over an image: the walk of a directory's index, whose blocks are read from the image as the walk enters
+//! them.
+#![tactic(auto)]
+
+mod allocation;
+mod blocks;
+mod directory;
+mod fault;
+mod runs;
+
+pub use directory::{Directory, open_directory};
