@@ -30,7 +30,7 @@ length-runs content c n s v cells held are room =
     let front = length-take-le v bytes (omega (arith, long, valid, enough)) in
     length-append (take v bytes) (replicate (s - v) 0) ∙ omega (arith, front, length-replicate {A = ℕ} (s - v) 0, valid)
 
-pub bytes-length : (g : Geometry) (content : List ℕ) (s : Stream ℕ) → CanRead (length content) g s → length (allocation_bytes g content s) ≡ allocation_length s
+bytes-length : (g : Geometry) (content : List ℕ) (s : Stream ℕ) → CanRead (length content) g s → length (allocation_bytes g content s) ≡ allocation_length s
 unfolding bytes_of_stream
 bytes-length g content s can = by s.is_resident refl
   where
@@ -48,23 +48,11 @@ runs_is : (resident : Bool) (given cells : List (Option ℕ)) → Some cells ≡
 runs_is true given cells is = absurd cc
 runs_is false given cells is = (refl, cc)
 
-pub value-bytes : (g : Geometry) (content value : List ℕ) (s : Stream ℕ) → Some value ≡ (if s.is_resident then Some s.value else None) → allocation_bytes g content s ≡ value
+value-bytes : (g : Geometry) (content value : List ℕ) (s : Stream ℕ) → Some value ≡ (if s.is_resident then Some s.value else None) → allocation_bytes g content s ≡ value
 unfolding bytes_of_stream
 value-bytes g content value s is = let parts = value_is s.is_resident s.value value is in rw parts.0 parts.1
 
-pub value-length : (value : List ℕ) (s : Stream ℕ) → Some value ≡ (if s.is_resident then Some s.value else None) → allocation_length s ≡ length value
-value-length value s is = let parts = value_is s.is_resident s.value value is in rw parts.0 (ap length parts.1)
-
-pub runs-size : (s : Stream ℕ) (cells : List (Option ℕ)) → Some cells ≡ (if s.is_resident then None else Some s.cells) → allocation_length s ≡ s.size
-runs-size s cells is = let parts = runs_is s.is_resident s.cells cells is in rw parts.0 refl
-
-pub runs-cells : (g : Geometry) (size : ℕ) (s : Stream ℕ) (cells : List (Option ℕ)) → Some cells ≡ (if s.is_resident then None else Some s.cells) → CanRead size g s → are_cells true g.clusters cells ≡ true
-runs-cells g size s cells is can = let parts = runs_is s.is_resident s.cells cells is in subst (λ (cs : List (Option ℕ)). are_cells true g.clusters cs ≡ true) parts.1 can.readable.cells
-
-pub runs-room : (g : Geometry) (size : ℕ) (s : Stream ℕ) (cells : List (Option ℕ)) → Some cells ≡ (if s.is_resident then None else Some s.cells) → CanRead size g s → have_room g.cluster (length cells) s.size s.valid ≡ true
-runs-room g size s cells is can = let parts = runs_is s.is_resident s.cells cells is in subst (λ (cs : List (Option ℕ)). have_room g.cluster (length cs) s.size s.valid ≡ true) parts.1 (can.readable.room parts.0)
-
-pub runs-bytes : (g : Geometry) (content : List ℕ) (s : Stream ℕ) (cells : List (Option ℕ)) → Some cells ≡ (if s.is_resident then None else Some s.cells)
+runs-bytes : (g : Geometry) (content : List ℕ) (s : Stream ℕ) (cells : List (Option ℕ)) → Some cells ≡ (if s.is_resident then None else Some s.cells)
     → runs_bytes g.cluster s.size s.valid (map_cells (cluster_at content g.cluster) cells) ≡ allocation_bytes g content s
 unfolding bytes_of_stream
 runs-bytes g content s cells is =

@@ -3,3 +3,4 @@ mod EmptyLemmas
 mod DirectoryLemmas
 mod AllocationLemmas
 mod NextLemmas
+mod LawLemmas

@@ -6,6 +6,12 @@ mod allocation;
 mod blocks;
 mod directory;
 mod fault;
+pub mod laws;
 mod runs;
+mod volume;
 
 pub use directory::{Directory, open_directory};
+pub use volume::directory_of;
+
+#[cfg(test)]
+mod tests;

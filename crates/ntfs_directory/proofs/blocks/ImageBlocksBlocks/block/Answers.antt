@@ -22,8 +22,10 @@ returns-in-Ok-clause-gives g c told =
     let long : length image.content ≡ image.size = g.met.G.Image.told_size b.image.now told in
     let can = subst (λ (n : ℕ). CanRead n b.geometry.now b.allocation.now) (sym long) c.args.self.now.readable in
     let found = blocks-found b.geometry.now image.content b.allocation.now c.args.vcn c.vcn_unit.result c.len.result c.block_place.result can c.vcn_unit.ensures.unit c.len.ensures c.block_place.ensures.block in
+    let same : b.geometry.now.block ≡ length c.args.into.now = sym c.requires in
+    let read : piece_at c.in-Some.place (length c.args.into.now) bytes ≡ c.read.new.into = sym (c.in-Ok.ensures.bytes told) in
     found ∙ ap (option_map (λ place. piece_at place b.geometry.now.block bytes)) c.in-Some.is
-    ∙ ap Some (ap (λ n. piece_at c.in-Some.place n bytes) (sym c.requires) ∙ sym (c.in-Ok.ensures.bytes told))
+    ∙ ap Some (ap (λ n. piece_at c.in-Some.place n bytes) same ∙ read)
 
 pub returns-in-Ok-clause-outside : goal.returns-in-Ok-clause-outside
 returns-in-Ok-clause-outside g c told =
