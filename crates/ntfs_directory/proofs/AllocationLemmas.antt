@@ -1,5 +1,5 @@
 -- The bytes of an allocation, and the blocks in them.
-use Rattle.std.proofs.Common.{◌≡◌, ◌≤◌, ◌+◌, ◌-◌, ◌*◌, ℕ, List, [], ◌∷◌, length, take, drop, refl, sym, ap, ◌∙◌, subst, arith, length-append, Bool, true, false, Option, Some, None, nat_le, slice_range}
+use Rattle.std.proofs.Common.{◌≡◌, ◌≤◌, ◌+◌, ◌-◌, ◌*◌, ℕ, List, [], ◌∷◌, length, take, drop, refl, sym, ap, ◌∙◌, arith, length-append, Bool, true, false, Option, Some, None, nat_le, slice_range}
 use Rattle.std.specs.Prelude.{if◌then◌else◌, replicate}
 use Rattle.std.specs.Option.{option_map}
 use Rattle.std.proofs.lemmas.Bool.{leb-true}
@@ -67,6 +67,9 @@ pub blocks-found : (g : Geometry) (content : List ℕ) (s : Stream ℕ) (vcn uni
 blocks-found g content s vcn unit len found can unit_is len_is is =
     let bytes = allocation_bytes g content s in
     ap (λ u. blocks_of u g.block bytes vcn) (sym unit_is) ∙ is bytes (bytes-length g content s can ∙ sym len_is)
+
+pub block-read : (bytes into : List ℕ) (place len size : ℕ) → len ≡ size → into ≡ piece_at place len bytes → Some (piece_at place size bytes) ≡ Some into
+block-read bytes into place len size same is = ap Some (ap (λ n. piece_at place n bytes) (sym same) ∙ sym is)
 
 pub some-not-none : {X : Type 0} (o : Option X) (x : X) → o ≡ Some x → o ≡ None → ⊥
 some-not-none o x some none = cc

@@ -4,9 +4,9 @@ ghost use Rattle.ntfs_directory.specs.State.{IsOn, answered};
 ghost use Rattle.ntfs_volume.specs.Opened.{HasClusters};
 ghost use Rattle.std.specs.Prelude.{◌≡◌, None};
 
-use crate::{Directory, open_directory};
+use crate::{Directory, directory_of, open_directory};
 use ntfs_base::{Image, Leaves, MemImage};
-use ntfs_volume::{Table, VolumeFault, read_table};
+use ntfs_volume::{Table, Volume, VolumeFault, open_volume, read_table};
 use std::alloc::{AllocError, Global};
 use std::process::Abort;
 use std::test::Fail;
@@ -274,6 +274,31 @@ fn alone<'a>(root: &'a [Item]) -> Shape<'a> {
         allocation: None,
         blocks: &[],
     }
+}
+
+/// The first entry of record 5 of a volume, at a type that is known by its bound alone.
+fn first_of<G: Image>(alloc: Global, volume: &mut Volume<'_, G>) -> Result<Option<u64>, VolumeFault>
+    requires held { HasClusters (G.seen volume.old.image.now).size volume.old.table }
+{
+    let mut found = directory_of(alloc, volume, 5)?;
+    match found.next_of(volume)? {
+        None => Ok(None),
+        Some(entry) => Ok(Some(entry.reference)),
+    }
+}
+
+#[test]
+fn a_volume_gives_the_same(rt: HostRuntime) -> Result<(), Fail> {
+    let alloc = rt.alloc();
+    let plain = [own(20), END];
+    for (root, want) in [(&plain[..], Some(20)), (&[END][..], None)] {
+        let mut image = MemImage::new(alloc, volume(alloc, &alone(root))?);
+        match open_volume(alloc, &mut image) {
+            Err(_) => Err("a volume")?,
+            Ok(mut volume) => assert_eq!(rt; first_of(alloc, &mut volume), Ok(want)),
+        }
+    }
+    Ok(())
 }
 
 #[test]

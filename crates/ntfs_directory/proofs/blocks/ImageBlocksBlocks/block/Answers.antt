@@ -1,8 +1,8 @@
-use Rattle.std.proofs.Common.{◌≡◌, ℕ, refl, sym, ap, ◌∙◌, subst, length, Some}
+use Rattle.std.proofs.Common.{◌≡◌, ℕ, refl, sym, ap, ◌∙◌, subst, length}
 use Rattle.std.specs.Option.{option_map}
 use Rattle.ntfs_base.specs.Bytes.{piece_at}
 use Rattle.ntfs_directory.specs.Allocation.{CanRead, allocation_bytes}
-use Rattle.ntfs_directory.proofs.AllocationLemmas.{blocks-found, some-not-none}
+use Rattle.ntfs_directory.proofs.AllocationLemmas.{block-read, blocks-found, some-not-none}
 use Rattle.ntfs_directory.proofs.blocks.ImageBlocksBlocks.block.Goals as goal
 
 pub returns-in_default-clause-outside : goal.returns-in_default-clause-outside
@@ -22,10 +22,8 @@ returns-in-Ok-clause-gives g c told =
     let long : length image.content ≡ image.size = g.met.G.Image.told_size b.image.now told in
     let can = subst (λ (n : ℕ). CanRead n b.geometry.now b.allocation.now) (sym long) c.args.self.now.readable in
     let found = blocks-found b.geometry.now image.content b.allocation.now c.args.vcn c.vcn_unit.result c.len.result c.block_place.result can c.vcn_unit.ensures.unit c.len.ensures c.block_place.ensures.block in
-    let same : b.geometry.now.block ≡ length c.args.into.now = sym c.requires in
-    let read : piece_at c.in-Some.place (length c.args.into.now) bytes ≡ c.read.new.into = sym (c.in-Ok.ensures.bytes told) in
     found ∙ ap (option_map (λ place. piece_at place b.geometry.now.block bytes)) c.in-Some.is
-    ∙ ap Some (ap (λ n. piece_at c.in-Some.place n bytes) same ∙ read)
+    ∙ block-read bytes c.read.new.into c.in-Some.place (length c.args.into.now) b.geometry.now.block c.requires (c.in-Ok.ensures.bytes told)
 
 pub returns-in-Ok-clause-outside : goal.returns-in-Ok-clause-outside
 returns-in-Ok-clause-outside g c told =
