@@ -1,0 +1,6 @@
+mod ReadLemmas
+mod EmptyLemmas
+mod DirectoryLemmas
+mod AllocationLemmas
+mod NextLemmas
+mod LawLemmas

@@ -1,0 +1,12 @@
+pub use Rattle.ntfs_base.specs.Bytes
+pub use Rattle.ntfs_base.specs.Causes
+pub use Rattle.ntfs_boot.specs.Geometry
+pub use Rattle.ntfs_index.specs.Blocks
+pub use Rattle.ntfs_index.specs.Walk
+pub use Rattle.ntfs_volume.specs.Streams
+pub mod Fault
+pub mod Allocation
+pub mod Runs
+pub mod Directory
+pub mod State
+pub mod ImageBlocks

@@ -1,0 +1,17 @@
+//! Directories over an image: the walk of a directory's index, whose blocks are read from the image as the walk enters
+//! them.
+#![tactic(auto)]
+
+mod allocation;
+mod blocks;
+mod directory;
+mod fault;
+pub mod laws;
+mod runs;
+mod volume;
+
+pub use directory::{Directory, open_directory};
+pub use volume::directory_of;
+
+#[cfg(test)]
+mod tests;
