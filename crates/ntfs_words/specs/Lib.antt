@@ -1,0 +1,5 @@
+pub mod Numbers
+pub mod Tool
+pub mod Line
+pub mod Values
+pub mod Info
