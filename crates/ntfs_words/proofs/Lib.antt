@@ -1,4 +1,4 @@
 pub mod NumberLemmas
 pub mod LineLemmas
 pub mod PartLemmas
-pub mod InfoLemmas
+pub mod SimpleLemmas

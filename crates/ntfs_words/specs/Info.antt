@@ -1,5 +1,5 @@
 -- The words of ntfsinfo: `[-m|--mft] [-i|--inode NUM] IMAGE`, with exactly one option. The rule is ours.
-use Rattle.std.specs.Prelude.{List, [], ◌∷◌, codes, is_some, Result, Ok, Err}
+use Rattle.std.specs.Prelude.{List, [], ◌∷◌, codes, is_some, Result, Ok}
 use Rattle.clap.specs.Words.{App, Row, Text}
 use Rattle.ntfs_base.specs.Frames.{must, ◌>>=◌}
 use Rattle.ntfs_words.specs.Line.{app_with, flag, is_on, line_of, needed, text_of, valued, word_of}

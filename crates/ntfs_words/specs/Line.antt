@@ -1,6 +1,6 @@
 -- The words of one tool, in clap's own words: a tool's command is a table of rules, a line is taken where clap finds
 -- no fault in it, and then has clap's rows, one for each part that was given. The words are ours.
-use Rattle.std.specs.Prelude.{◌==◌, ℕ, Bool, true, false, List, [], length, codes, Option, Some, None}
+use Rattle.std.specs.Prelude.{◌==◌, ℕ, Bool, true, false, List, [], length, codes, Option, Some, is_some}
 use Rattle.std.specs.Prelude.{Result, Ok, Err, if◌then◌else◌}
 use Rattle.std.specs.Option.{ok_or, option_map_or}
 use Rattle.std.specs.Str.{bytes_eq}
@@ -8,7 +8,7 @@ use Rattle.clap.specs.Words.{App, Row, Rule, Text, fault_of, first_of, matches_o
 use Rattle.clap.specs.declared.builder.ArgAction.TheVariants.{SetTrue}
 use Rattle.clap.specs.declared.error.kind.ErrorKind.{ErrorKind}
 use Rattle.clap.specs.declared.error.kind.ErrorKind.TheVariants.{OutOfMemory}
-use Rattle.ntfs_base.specs.Frames.{Gives, Origin, content, memory, must, ◌>>=◌}
+use Rattle.ntfs_base.specs.Frames.{Gives, Origin, content, memory}
 use Rattle.ntfs_base.specs.declared.refusal.UsageKind.TheVariants as usage
 use Rattle.ntfs_words.specs.declared.part.Part.{Part}
 use Rattle.ntfs_words.specs.declared.part.Part.TheVariants.{Flag, LongFlag, Valued, Needed, Optional}
@@ -74,6 +74,10 @@ is_on id rows = option_map_or (λ text. bytes_eq text (codes "true")) (first_of 
 -- the value of an option, or a positional word
 abbrev pub text_of : Text → List Row → Option Text
 text_of id rows = first_of id rows
+
+-- the option or word was given
+abbrev pub is_given : Text → List Row → Bool
+is_given id rows = is_some (text_of id rows)
 
 -- a word that clap has found to be there
 unfoldable pub word_of : Text → List Row → Result Text WordsFault

@@ -1,5 +1,5 @@
 -- The tools, by the first word of a command line. Eight have the names of the public ntfsprogs; the others are ours.
-use Rattle.std.specs.Prelude.{ℕ, List, [], ◌∷◌, codes, find, Option, Some, None}
+use Rattle.std.specs.Prelude.{ℕ, List, [], ◌∷◌, codes, find, Option, None}
 use Rattle.std.specs.Str.{bytes_eq}
 use Rattle.ntfs_words.specs.declared.tool.Tool.{Tool}
 use Rattle.ntfs_words.specs.declared.tool.Tool.TheVariants.{Info, Ls, Cat, Cluster, Cp, Clone, Resize, Fix, Make, Trial}

@@ -13,7 +13,7 @@ use clap::Command;
 use std::alloc::{AllocError, Global};
 
 /// `ntfsinfo [-m|--mft] [-i|--inode NUM] IMAGE`
-#[tactic(auto, using(crate::proofs::InfoLemmas::info_is_simple), unfolding(crate::specs::Info::info_asked))]
+#[tactic(auto, using(crate::proofs::SimpleLemmas::info_is_simple), unfolding(crate::specs::Info::info_asked))]
 pub(crate) fn read_info(alloc: Global, words: &[String]) -> Result<Request, WordsFault>
     ensures { Reads (info_asked (map string_bytes words.now)) result }
 {

@@ -1,7 +1,7 @@
 //! A line that a tool's command takes.
 ghost use Rattle.std.specs.Prelude.{◌≡◌, IfOk, IfErr, true, map, option_map, string_bytes};
 ghost use Rattle.clap.specs.Words.{app_of, is_simple_and_free};
-ghost use Rattle.ntfs_words.specs.Line.{Reads, is_on, line_of, refusal_of, text_of, word_of};
+ghost use Rattle.ntfs_words.specs.Line.{Reads, is_given, is_on, line_of, refusal_of, text_of, word_of};
 
 use crate::request::WordsFault;
 use clap::error::ErrorKind;
@@ -36,6 +36,13 @@ impl<'a> Line<'a> {
         }
     }
 
+    /// The option or word was given.
+    pub(crate) fn is_given(&self, id: &str) -> bool
+        ensures { result ≡ is_given id.now self.now }
+    {
+        self.text(id).is_some()
+    }
+
     /// The value of an option, or a positional word.
     pub(crate) fn text(&self, id: &str) -> Option<&'a str>
         ensures { option_map (λ text. text.now) result ≡ text_of id.now self.now }
@@ -60,7 +67,10 @@ impl<'a> Line<'a> {
 
 /// Reads words as a line of a command. The first word, which names the tool, isn't looked at.
 #[tactic(auto, unfolding(crate::specs::Line::line_of))]
-pub(crate) fn read_line<'a>(command: Command<'a>, words: &'a [String]) -> Result<Line<'a>, WordsFault>
+pub(crate) fn read_line<'a>(
+    command: Command<'a>,
+    words: &'a [String],
+) -> Result<Line<'a>, WordsFault>
     requires { is_simple_and_free (app_of command) ≡ true }
     ensures { Reads (line_of (app_of command.entry) (map string_bytes words.entry.now)) result }
 {

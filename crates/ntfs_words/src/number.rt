@@ -65,11 +65,7 @@ pub fn range_of(word: &str) -> Option<(u64, u64)>
     let (first, last) = word.split_once('-')?;
     let from = decimal_of(first)?;
     let to = decimal_of(last)?;
-    if from <= to {
-        Some((from, to))
-    } else {
-        None
-    }
+    if from <= to { Some((from, to)) } else { None }
 }
 
 #[tactic(auto, unfolding(crate::specs::Numbers::decimal_of))]

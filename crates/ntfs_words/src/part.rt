@@ -57,7 +57,5 @@ fn flag_of<'a>(alloc: Global, long: &'a str) -> Arg<'a>
     ensures rule { rule_of result ≡ rule_for (Part.LongFlag long.entry) }
     ensures local { result.global ≡ false }
 {
-    Arg::new(alloc, long)
-        .long(long)
-        .action(ArgAction::SetTrue)
+    Arg::new(alloc, long).long(long).action(ArgAction::SetTrue)
 }

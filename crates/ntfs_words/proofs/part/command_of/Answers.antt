@@ -1,6 +1,5 @@
-use Rattle.std.proofs.Common.{◌≡◌, ◌∙◌, ap, sym, map, take, length, rules, arith}
+use Rattle.std.proofs.Common.{◌∙◌, ap, map, rules, arith}
 use Rattle.std.proofs.lemmas.List.{take_all}
-use Rattle.clap.specs.Words.{App, Rule, app_of, rule_of, with_rule}
 use Rattle.ntfs_words.specs.Line.{app_with, rule_for}
 use Rattle.ntfs_words.proofs.PartLemmas.{with_one_more}
 use Rattle.ntfs_words.proofs.part.command_of.Goals as goal
