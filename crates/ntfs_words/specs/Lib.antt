@@ -1,0 +1,15 @@
+pub mod Numbers
+pub mod Tool
+pub mod Line
+pub mod Values
+pub mod Info
+pub mod Ls
+pub mod Cat
+pub mod Cluster
+pub mod Cp
+pub mod Clone
+pub mod Resize
+pub mod Fix
+pub mod Make
+pub mod Trial
+pub mod Words
