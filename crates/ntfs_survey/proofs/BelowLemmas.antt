@@ -1,5 +1,5 @@
 -- The owners that were found lie on the volume, and what a record is refused by is listed, whatever the bytes are.
-use Rattle.std.proofs.Common.{◌≡◌, ◌≤◌, ◌^◌, ◌+◌, ◌-◌, ◌==◌, ◌&&◌, ◌||◌, ℕ, suc, Bool, true, false, List, [], ◌∷◌, length, map, Option, Some, None, Result, Ok, Err, refl, sym, ◌∙◌, subst, arith, inl, if◌then◌else◌}
+use Rattle.std.proofs.Common.{◌≡◌, ◌≤◌, ◌^◌, ◌+◌, ◌-◌, ◌==◌, ◌||◌, ℕ, suc, Bool, true, false, List, [], ◌∷◌, length, map, Option, Some, None, Result, Ok, Err, refl, sym, ◌∙◌, subst, arith, inl, if◌then◌else◌}
 use Rattle.std.specs.Prelude.{All, IfErr, OnOk, is_some}
 use Rattle.std.proofs.lemmas.Bool.{leb-true}
 use Rattle.std.proofs.lemmas.List.Elements.{All-append, All-cons, All-nil}
@@ -17,20 +17,13 @@ use Rattle.ntfs_runs.proofs.ItemsLemmas.{gives-spellable}
 use Rattle.ntfs_survey.specs.Owned.{IsSurveyFault, LiesBelow, is_whole, run_owner, run_owners, runs_in}
 use Rattle.ntfs_survey.specs.Surveying.{Found, all_taken, pairs_taken, shown_located, shown_taken, slot_taken, slots_taken, spell, with_owners, wrong_in}
 use Rattle.ntfs_survey.specs.declared.owners.Owner.{Owner}
+use Rattle.ntfs_survey.proofs.FoldLemmas.{and-left, and-right}
 use Rattle.ntfs_survey.proofs.FoundLemmas.{spell-right, spell-wrong}
 use Rattle.ntfs_volume.specs.Fault.{volume_origin}
 use Rattle.ntfs_volume.specs.Located.{Located}
 use Rattle.ntfs_volume.specs.Records.{unsound}
 use Rattle.ntfs_volume.specs.declared.fault.VolumeFault.{VolumeFault}
 use Rattle.ntfs_volume.specs.declared.fault.VolumeFault.TheVariants as volume
-
-and-left : (a b : Bool) → (a && b) ≡ true → a ≡ true
-and-left true b is = refl
-and-left false b is = is
-
-and-right : (a b : Bool) → (a && b) ≡ true → b ≡ true
-and-right true b is = is
-and-right false b is = absurd cc
 
 -- ---- owners
 

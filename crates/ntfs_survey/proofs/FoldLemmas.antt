@@ -26,11 +26,11 @@ found_by owners wrong = record { owners = owners; wrong = wrong }
 abbrev ok_found : Found → Result Found VolumeFault
 ok_found found = Ok found
 
-and-left : (a b : Bool) → (a && b) ≡ true → a ≡ true
+pub and-left : (a b : Bool) → (a && b) ≡ true → a ≡ true
 and-left true b is = refl
 and-left false b is = is
 
-and-right : (a b : Bool) → (a && b) ≡ true → b ≡ true
+pub and-right : (a b : Bool) → (a && b) ≡ true → b ≡ true
 and-right true b is = is
 and-right false b is = absurd cc
 

@@ -6,3 +6,5 @@ mod FoldLemmas
 mod RecordLemmas
 mod SlotsLemmas
 mod BelowLemmas
+mod AgreeLemmas
+mod StreamLemmas

@@ -1,10 +1,10 @@
 -- What the laws of owned clusters speak of. The words are ours.
-use Rattle.std.specs.Prelude.{◌≡◌, ◌+◌, ◌<◌, ◌⊎◌, ℕ, false, List, [], ◌∷◌, Contains, Some, slice_get}
+use Rattle.std.specs.Prelude.{◌≡◌, ◌+◌, ◌<◌, ◌⊎◌, ℕ, true, false, List, [], ◌∷◌, Contains, Option, Some, IfSome, slice_get}
 use Rattle.std.specs.List.{AllByRecursion}
 use Rattle.ntfs_record.specs.FileRecord.{Attribute, Laid}
 use Rattle.ntfs_record.specs.Slots.{Slot}
 use Rattle.ntfs_runs.specs.Cells.{Cells}
-use Rattle.ntfs_survey.specs.Owned.{Claim}
+use Rattle.ntfs_survey.specs.Owned.{Claim, owned}
 use Rattle.ntfs_volume.specs.Located.{Located, slot_at}
 
 -- the claim that the i-th cell of an attribute of record r makes where it is this cluster
@@ -44,3 +44,17 @@ StandsBefore a b = a.payload.place < b.payload.place
 -- the attributes of each record stand one behind the other
 abbrev pub AreInOrder : {P : Type 0} → List (Slot (Located P)) → Type 0
 AreInOrder slots = AllByRecursion (λ s. Ascend StandsBefore s.attributes) slots
+
+-- ---- streams
+
+-- an attribute that is resident has no cells
+abbrev pub HasNoCells : {X : Type 0} → Attribute (Located (Laid (Cells X))) → Type 0
+HasNoCells a = a.face.is_resident ≡ true → a.payload.payload.runs.cells ≡ []
+
+-- the attributes of all records that are resident have none
+abbrev pub HaveNoCells : {X : Type 0} → List (Slot (Located (Laid (Cells X)))) → Type 0
+HaveNoCells slots = AllByRecursion (λ s. AllByRecursion HasNoCells s.attributes) slots
+
+-- the cell is a hole or an owned cluster
+abbrev pub IsOwned : {X : Type 0} → List (Slot (Located (Laid (Cells X)))) → Option X → Type 0
+IsOwned {X} slots cell = IfSome cell (λ k. (claim : Claim X) × Contains (owned slots) claim × (claim.cluster ≡ k))
