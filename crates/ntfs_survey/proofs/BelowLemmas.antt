@@ -15,7 +15,7 @@ use Rattle.ntfs_runs.specs.declared.run.Run.{Run}
 use Rattle.ntfs_runs.proofs.CellsLemmas.{are_cells-append, are_cells-some}
 use Rattle.ntfs_runs.proofs.ItemsLemmas.{gives-spellable}
 use Rattle.ntfs_survey.specs.Owned.{IsSurveyFault, LiesBelow, is_whole, run_owner, run_owners, runs_in}
-use Rattle.ntfs_survey.specs.Surveying.{Found, all_taken, pairs_taken, shown_located, shown_taken, slot_taken, slots_taken, spell, with_owners, wrong_in}
+use Rattle.ntfs_survey.specs.Surveying.{Found, all_shown_taken, pairs_taken, shown_located, shown_taken, slot_taken, slots_taken, spells_cells, with_owners, pairs_wrong_in}
 use Rattle.ntfs_survey.specs.declared.owners.Owner.{Owner}
 use Rattle.ntfs_survey.proofs.FoldLemmas.{and-left, and-right}
 use Rattle.ntfs_survey.proofs.FoundLemmas.{spell-right, spell-wrong}
@@ -45,7 +45,7 @@ runs-below n r place vcn room (run ∷ runs) fit are =
     (run-below n r place vcn run.length run.lcn fit.0 (and-left (are_cells true n (row run.length run.lcn)) (are_cells true n (vcns runs)) both))
     (runs-below n r place (vcn + run.length) (room - run.length) runs fit.3 (and-right (are_cells true n (row run.length run.lcn)) (are_cells true n (vcns runs)) both))
 
-pairs-by : (right : Bool) (n r place lowest count : ℕ) (pairs : List ℕ) → (reading pairs).is_right ≡ right → spell n count pairs ≡ true
+pairs-by : (right : Bool) (n r place lowest count : ℕ) (pairs : List ℕ) → (reading pairs).is_right ≡ right → spells_cells n count pairs ≡ true
     → All (LiesBelow n) (run_owners r place lowest (if right then (reading pairs).runs else []))
 pairs-by true n r place lowest count pairs right is =
     let runs = (reading pairs).runs in
@@ -53,8 +53,8 @@ pairs-by true n r place lowest count pairs right is =
     (and-left (are_cells true n (vcns runs)) (length (vcns runs) == count) (sym (spell-right n count pairs runs right refl) ∙ is))
 pairs-by false n r place lowest count pairs right is = let other = sym is ∙ spell-wrong n count pairs right in absurd cc
 
-taken-by : (right : Bool) (n r place lowest next : ℕ) (pairs : List ℕ) (found : Found) → spell n (next - lowest) pairs ≡ right → All (LiesBelow n) found.owners
-    → All (LiesBelow n) (if right then with_owners (run_owners r place lowest (runs_in pairs)) found else wrong_in r found).owners
+taken-by : (right : Bool) (n r place lowest next : ℕ) (pairs : List ℕ) (found : Found) → spells_cells n (next - lowest) pairs ≡ right → All (LiesBelow n) found.owners
+    → All (LiesBelow n) (if right then with_owners (run_owners r place lowest (runs_in pairs)) found else pairs_wrong_in r found).owners
 taken-by true n r place lowest next pairs found is all =
     All-append (LiesBelow n) found.owners (run_owners r place lowest (runs_in pairs)) all (pairs-by (reading pairs).is_right n r place lowest (next - lowest) pairs refl is)
 taken-by false n r place lowest next pairs found is all = all
@@ -64,10 +64,10 @@ shown-by : (settled : Bool) (n r : ℕ) (found : Found) (shown : Shown) → All 
 unfolding pairs_taken
 shown-by true n r found shown all = all
 shown-by false n r found shown all =
-    taken-by (spell n (shown.body.next - shown.body.lowest) shown.body.pairs) n r shown.place shown.body.lowest shown.body.next shown.body.pairs found refl all
+    taken-by (spells_cells n (shown.body.next - shown.body.lowest) shown.body.pairs) n r shown.place shown.body.lowest shown.body.next shown.body.pairs found refl all
 
-attributes-below : (n r : ℕ) (found : Found) (shown : List Shown) → All (LiesBelow n) found.owners → All (LiesBelow n) (all_taken n r found shown).owners
-unfolding all_taken shown_taken
+attributes-below : (n r : ℕ) (found : Found) (shown : List Shown) → All (LiesBelow n) found.owners → All (LiesBelow n) (all_shown_taken n r found shown).owners
+unfolding all_shown_taken shown_taken
 attributes-below n r found [] all = all
 attributes-below n r found (x ∷ shown) all =
     attributes-below n r (shown_taken n r found x) shown (shown-by (is_some found.wrong || x.body.is_resident) n r found x all)
@@ -94,7 +94,7 @@ slots-below n r found more [] is all = let same : found ≡ more = cc in subst (
 slots-below n r found more (s ∷ slots) is all =
     let parts = bind-parts (slot_taken n r found s) (λ middle. slots_taken n (suc r) middle slots) more is in
     slots-below n (suc r) parts.0 more slots parts.2
-    (slot-by (is_whole s) n r (all_taken n r found (map shown_located s.attributes)) parts.0 parts.1 (attributes-below n r found (map shown_located s.attributes) all))
+    (slot-by (is_whole s) n r (all_shown_taken n r found (map shown_located s.attributes)) parts.0 parts.1 (attributes-below n r found (map shown_located s.attributes) all))
 
 -- the owners that were found, where no record was refused
 pub given-below : (n r : ℕ) (found more : Found) (slots : List (Slot (Located (Laid (List ℕ))))) (result : Result (Unit {0}) VolumeFault)
@@ -118,8 +118,8 @@ slots-listed : (n r : ℕ) (found : Found) (slots : List (Slot (Located (Laid (L
 unfolding slots_taken slot_taken
 slots-listed n r found [] fault is = absurd cc
 slots-listed n r found (s ∷ slots) fault is =
-    refused-by (is_whole s) r (all_taken n r found (map shown_located s.attributes)) (λ more. slots_taken n (suc r) more slots) fault is
-    (λ rest. slots-listed n (suc r) (all_taken n r found (map shown_located s.attributes)) slots fault rest)
+    refused-by (is_whole s) r (all_shown_taken n r found (map shown_located s.attributes)) (λ more. slots_taken n (suc r) more slots) fault is
+    (λ rest. slots-listed n (suc r) (all_shown_taken n r found (map shown_located s.attributes)) slots fault rest)
 
 -- a refusal that isn't listed would come from the content, and is then that of a record
 pub given-listed : (n r : ℕ) (found more : Found) (slots : List (Slot (Located (Laid (List ℕ))))) (result : Result (Unit {0}) VolumeFault)

@@ -12,7 +12,7 @@ use Rattle.ntfs_runs.specs.declared.run.Run.{Run}
 use Rattle.ntfs_runs.proofs.ClustersLemmas.{next-run}
 use Rattle.ntfs_runs.proofs.CellsLemmas.{cells_of-right, cells_of-wrong, no_run}
 use Rattle.ntfs_survey.specs.Owned.{run_owner, run_owners, runs_in}
-use Rattle.ntfs_survey.specs.Surveying.{Found, pairs_taken, shown_taken, spell, with_owners, wrong_in}
+use Rattle.ntfs_survey.specs.Surveying.{Found, pairs_taken, shown_taken, spells_cells, with_owners, pairs_wrong_in}
 use Rattle.ntfs_survey.specs.declared.owners.Owner.{Owner}
 
 -- ---- runs
@@ -48,11 +48,11 @@ owners-last r place vcn i runs found all past is =
 -- ---- mapping pairs
 
 pub spell-right : (n count : ℕ) (pairs : List ℕ) (runs : List Run) → (reading pairs).is_right ≡ true → runs ≡ (reading pairs).runs
-    → spell n count pairs ≡ (are_cells true n (vcns runs) && (length (vcns runs) == count))
+    → spells_cells n count pairs ≡ (are_cells true n (vcns runs) && (length (vcns runs) == count))
 unfolding cells_below
 spell-right n count pairs runs right are = let cells = cells_of-right pairs runs right are in rw (cells.0, cells.1) refl
 
-pub spell-wrong : (n count : ℕ) (pairs : List ℕ) → (reading pairs).is_right ≡ false → spell n count pairs ≡ false
+pub spell-wrong : (n count : ℕ) (pairs : List ℕ) → (reading pairs).is_right ≡ false → spells_cells n count pairs ≡ false
 unfolding cells_below
 spell-wrong n count pairs wrong = rw (cells_of-wrong pairs wrong) refl
 
@@ -64,20 +64,20 @@ runs-right pairs runs right are = are ∙ sym (step (reading pairs).is_right (re
     step false runs is = absurd cc
 
 abbrev taken_by : Bool → ℕ → ℕ → ℕ → List ℕ → Found → Found
-taken_by right r place lowest pairs found = if right then with_owners (run_owners r place lowest (runs_in pairs)) found else wrong_in r found
+taken_by right r place lowest pairs found = if right then with_owners (run_owners r place lowest (runs_in pairs)) found else pairs_wrong_in r found
 
-pub pairs-wrong : (n r place lowest next count : ℕ) (pairs : List ℕ) (found : Found) → count ≡ next - lowest → spell n count pairs ≡ false
-    → wrong_in r found ≡ pairs_taken n r place lowest next pairs found
+pub pairs-wrong : (n r place lowest next count : ℕ) (pairs : List ℕ) (found : Found) → count ≡ next - lowest → spells_cells n count pairs ≡ false
+    → pairs_wrong_in r found ≡ pairs_taken n r place lowest next pairs found
 unfolding pairs_taken
 pairs-wrong n r place lowest next count pairs found is wrong =
-    sym (ap (λ count. taken_by (spell n count pairs) r place lowest pairs found) (sym is) ∙ ap (λ b. taken_by b r place lowest pairs found) wrong)
+    sym (ap (λ count. taken_by (spells_cells n count pairs) r place lowest pairs found) (sym is) ∙ ap (λ b. taken_by b r place lowest pairs found) wrong)
 
-pub pairs-right : (n r place lowest next count : ℕ) (pairs : List ℕ) (runs : List Run) (found : Found) → count ≡ next - lowest → spell n count pairs ≡ true → runs ≡ runs_in pairs
+pub pairs-right : (n r place lowest next count : ℕ) (pairs : List ℕ) (runs : List Run) (found : Found) → count ≡ next - lowest → spells_cells n count pairs ≡ true → runs ≡ runs_in pairs
     → with_owners (run_owners r place lowest runs) found ≡ pairs_taken n r place lowest next pairs found
 unfolding pairs_taken
 pairs-right n r place lowest next count pairs runs found is right are =
     ap (λ runs. with_owners (run_owners r place lowest runs) found) are
-    ∙ sym (ap (λ count. taken_by (spell n count pairs) r place lowest pairs found) (sym is) ∙ ap (λ b. taken_by b r place lowest pairs found) right)
+    ∙ sym (ap (λ count. taken_by (spells_cells n count pairs) r place lowest pairs found) (sym is) ∙ ap (λ b. taken_by b r place lowest pairs found) right)
 
 -- ---- attributes
 

@@ -5,7 +5,7 @@ use Rattle.ntfs_base.specs.Frames.{◌>>=◌}
 use Rattle.ntfs_record.specs.FileRecord.{FileRecord}
 use Rattle.ntfs_record.specs.Slots.{begins_baad, is_in_use, record_in, tells_own}
 use Rattle.ntfs_record.specs.Views.{Placed, Shown, placed_of, shown_placed}
-use Rattle.ntfs_survey.specs.Surveying.{Found, all_taken, shown_located, shown_taken, slot_taken, slots_in, slots_taken}
+use Rattle.ntfs_survey.specs.Surveying.{Found, all_shown_taken, shown_located, shown_taken, slot_taken, slots_in, slots_taken}
 use Rattle.ntfs_volume.specs.Located.{live_located, located_of, located_slot, sound_located, unsound_located}
 use Rattle.ntfs_volume.specs.Records.{unsound}
 use Rattle.ntfs_volume.specs.declared.fault.VolumeFault.{VolumeFault}
@@ -13,13 +13,13 @@ use Rattle.ntfs_volume.specs.declared.fault.VolumeFault.{VolumeFault}
 -- ---- attributes
 
 pub attributes-next : (n r : ℕ) (shown rest : List Shown) (x : Shown) (found more all : Found) → shown ≡ x ∷ rest → more ≡ shown_taken n r found x
-    → all_taken n r found shown ≡ all → all_taken n r more rest ≡ all
-unfolding all_taken
-attributes-next n r shown rest x found more all is added same = ap (λ f. all_taken n r f rest) added ∙ sym (ap (all_taken n r found) is) ∙ same
+    → all_shown_taken n r found shown ≡ all → all_shown_taken n r more rest ≡ all
+unfolding all_shown_taken
+attributes-next n r shown rest x found more all is added same = ap (λ f. all_shown_taken n r f rest) added ∙ sym (ap (all_shown_taken n r found) is) ∙ same
 
-pub attributes-last : (n r : ℕ) (shown : List Shown) (found all : Found) → shown ≡ [] → all_taken n r found shown ≡ all → found ≡ all
-unfolding all_taken
-attributes-last n r shown found all is same = sym (ap (all_taken n r found) is) ∙ same
+pub attributes-last : (n r : ℕ) (shown : List Shown) (found all : Found) → shown ≡ [] → all_shown_taken n r found shown ≡ all → found ≡ all
+unfolding all_shown_taken
+attributes-last n r shown found all is same = sym (ap (all_shown_taken n r found) is) ∙ same
 
 located-shown : (ps : List Placed) → map shown_located (map located_of ps) ≡ map shown_placed ps
 located-shown [] = refl
@@ -34,7 +34,7 @@ abbrev ok_found : Found → Taken
 ok_found found = Ok found
 
 pub take-idle : (n r : ℕ) (found : Found) (raw : List ℕ) → is_in_use raw ≡ false → begins_baad raw ≡ false → slot_taken n r found (located_slot r (Some raw)) ≡ ok_found found
-unfolding slot_taken located_slot all_taken
+unfolding slot_taken located_slot all_shown_taken
 take-idle n r found raw idle whole = rw (idle, whole) refl
 
 pub take-baad : (n r : ℕ) (found : Found) (raw : List ℕ) → is_in_use raw ≡ false → begins_baad raw ≡ true → slot_taken n r found (located_slot r (Some raw)) ≡ Err (unsound r)
@@ -61,11 +61,11 @@ unfolding slot_taken
 take-other n r found said file said_is other = by-number n r found said file false said_is other
 
 pub take-own : (n r : ℕ) (found more : Found) (said : Option FileRecord) (file : FileRecord) → said ≡ Some file → tells_own r file.layout.number ≡ true
-    → more ≡ all_taken n r found (map shown_placed (placed_of file)) → slot_taken n r found (live_located r said) ≡ ok_found more
+    → more ≡ all_shown_taken n r found (map shown_placed (placed_of file)) → slot_taken n r found (live_located r said) ≡ ok_found more
 unfolding slot_taken
 take-own n r found more said file said_is own taken =
     by-number n r found said file true said_is own
-    ∙ ap (λ shown. ok_found (all_taken n r found shown)) (located-shown (placed_of file)) ∙ ap ok_found (sym taken)
+    ∙ ap (λ shown. ok_found (all_shown_taken n r found shown)) (located-shown (placed_of file)) ∙ ap ok_found (sym taken)
 
 -- ---- records in bytes
 

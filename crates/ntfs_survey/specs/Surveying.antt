@@ -32,24 +32,24 @@ abbrev pub with_owners : List Owner → Found → Found
 with_owners more found = record { owners = found.owners ++ more; wrong = found.wrong }
 
 -- the pairs of record r aren't right
-abbrev pub wrong_in : ℕ → Found → Found
-wrong_in r found = record { owners = found.owners; wrong = Some r }
+abbrev pub pairs_wrong_in : ℕ → Found → Found
+pairs_wrong_in r found = record { owners = found.owners; wrong = Some r }
 
 -- mapping pairs spell so many cells on a volume of n clusters
-abbrev pub spell : ℕ → ℕ → List ℕ → Bool
-spell n count pairs = (cells_below n pairs).is_right && (length (cells_below n pairs).cells == count)
+abbrev pub spells_cells : ℕ → ℕ → List ℕ → Bool
+spells_cells n count pairs = (cells_below n pairs).is_right && (length (cells_below n pairs).cells == count)
 
 -- the runs of mapping pairs that spell so many cells on a volume of n clusters; none of others
 abbrev pub AreRunsOf : ℕ → ℕ → List ℕ → Option (List Run) → Type 0
-AreRunsOf n count pairs None = spell n count pairs ≡ false
+AreRunsOf n count pairs None = spells_cells n count pairs ≡ false
 AreRunsOf n count pairs (Some runs) =
-    (spell n count pairs ≡ true) × (runs ≡ runs_in pairs) × (length (vcns runs) ≤ 2 ^ 48)
+    (spells_cells n count pairs ≡ true) × (runs ≡ runs_in pairs) × (length (vcns runs) ≤ 2 ^ 48)
 
 -- the mapping pairs of the attribute at a place of record r, from a VCN up to another one
 unfoldable pub pairs_taken : ℕ → ℕ → ℕ → ℕ → ℕ → List ℕ → Found → Found
 pairs_taken n r place lowest next pairs found =
-    if spell n (next - lowest) pairs then with_owners (run_owners r place lowest (runs_in pairs)) found
-    else wrong_in r found
+    if spells_cells n (next - lowest) pairs then with_owners (run_owners r place lowest (runs_in pairs)) found
+    else pairs_wrong_in r found
 
 -- an attribute of record r
 unfoldable pub shown_taken : ℕ → ℕ → Found → Shown → Found
@@ -58,9 +58,9 @@ shown_taken n r found shown =
     else pairs_taken n r shown.place shown.body.lowest shown.body.next shown.body.pairs found
 
 -- the attributes of record r, one after the other
-unfoldable pub all_taken : ℕ → ℕ → Found → List Shown → Found
-all_taken n r found [] = found
-all_taken n r found (shown ∷ rest) = all_taken n r (shown_taken n r found shown) rest
+unfoldable pub all_shown_taken : ℕ → ℕ → Found → List Shown → Found
+all_shown_taken n r found [] = found
+all_shown_taken n r found (shown ∷ rest) = all_shown_taken n r (shown_taken n r found shown) rest
 
 -- what is shown of an attribute at its place
 abbrev pub shown_located : Attribute (Located (Laid (List ℕ))) → Shown
@@ -70,7 +70,7 @@ shown_located a = shown_attribute a.payload.place (unlocated a)
 unfoldable pub slot_taken : ℕ → ℕ → Found → Slot (Located (Laid (List ℕ))) → Result Found VolumeFault
 slot_taken n r found s = do
   _ ← must (is_whole s) (unsound r)
-  Ok (all_taken n r found (map shown_located s.attributes))
+  Ok (all_shown_taken n r found (map shown_located s.attributes))
 
 -- the records from number r on, one after the other
 unfoldable pub slots_taken : ℕ → ℕ → Found → List (Slot (Located (Laid (List ℕ)))) → Result Found VolumeFault
@@ -90,7 +90,7 @@ abbrev pub record_at : Opened → (ℕ → List ℕ) → ℕ → Slot (Located (
 record_at o f r = located_slot r (raw_record o.geometry o.map f r)
 
 -- what was found in all records
-abbrev pub finished : Found → Result (List Owner) VolumeFault
-finished found = do
+abbrev pub survey_found : Found → Result (List Owner) VolumeFault
+survey_found found = do
   _ ← unless_found found.wrong (volume.Damaged rule.C7)
   Ok found.owners

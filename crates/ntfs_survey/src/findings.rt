@@ -6,7 +6,7 @@ ghost use Rattle.ntfs_record.specs.Views.{HasBounds, shown_view};
 ghost use Rattle.ntfs_runs.specs.Cells.{are_cells};
 ghost use Rattle.ntfs_runs.specs.Clusters.{AreSpellable, vcns};
 ghost use Rattle.ntfs_survey.specs.Owned.{IsSurveyFault, run_owner, run_owners};
-ghost use Rattle.ntfs_survey.specs.Surveying.{AreRunsOf, finished, nothing_found, pairs_taken, shown_taken, with_owners, wrong_in};
+ghost use Rattle.ntfs_survey.specs.Surveying.{AreRunsOf, survey_found, nothing_found, pairs_taken, shown_taken, with_owners, pairs_wrong_in};
 ghost use Rattle.ntfs_volume.specs.Fault.{volume_origin};
 
 use crate::owners::Owner;
@@ -113,7 +113,7 @@ impl Findings {
 
     /// The pairs of the record of a number aren't right.
     fn mark_wrong(&mut self, number: u64)
-        ensures { self.new ≡ wrong_in number self.old }
+        ensures { self.new ≡ pairs_wrong_in number self.old }
     {
         self.wrong = Some(number);
     }
@@ -181,7 +181,7 @@ impl Findings {
 
     /// The owners, where all mapping pairs were right.
     pub(crate) fn finish(self) -> Result<Vec<Owner>, VolumeFault>
-        ensures gives { Gives volume_origin (λ owners. owners.items) (finished self) result }
+        ensures gives { Gives volume_origin (λ owners. owners.items) (survey_found self) result }
         ensures owners { IfOk result (λ owners. owners.items ≡ self.owners) }
         ensures listed { IfErr result IsSurveyFault }
         ensures judged { IsJudged volume_origin result }

@@ -6,7 +6,7 @@ ghost use Rattle.ntfs_boot.specs.Geometry.{IsGood};
 ghost use Rattle.ntfs_fixup.specs.Fixups.{HasWholeStrides};
 ghost use Rattle.ntfs_record.specs.Slots as spec;
 ghost use Rattle.ntfs_record.specs.Views.{placed_of, shown_placed};
-ghost use Rattle.ntfs_survey.specs.Surveying.{all_taken, slot_taken, slots_in, slots_taken};
+ghost use Rattle.ntfs_survey.specs.Surveying.{all_shown_taken, slot_taken, slots_in, slots_taken};
 ghost use Rattle.ntfs_volume.specs.Fault.{volume_origin};
 ghost use Rattle.ntfs_volume.specs.Located.{live_located, located_slot};
 ghost use Rattle.ntfs_volume.specs.Records as faults;
@@ -56,7 +56,7 @@ fn take_attributes(
     findings: &mut Findings,
 ) -> Result<(), AllocError>
     ensures { OnOk result (findings.new
-        ≡ all_taken clusters number findings.old (map shown_placed (placed_of view.now))) }
+        ≡ all_shown_taken clusters number findings.old (map shown_placed (placed_of view.now))) }
 {
     'attributes: for attribute in view.attributes() {
         findings.take(alloc, number, &attribute, clusters)?;
