@@ -152,7 +152,7 @@ def report(program, rounds):
 
 
 def main():
-    with program_over(CRATES, NAME, PROGRAM, "ntfs_base ntfs_volume ntfs_survey") as (program, rounds):
+    with program_over(CRATES, NAME, PROGRAM, ("ntfs_base", "ntfs_volume", "ntfs_survey")) as (program, rounds):
         report(program, rounds)
 
 
