@@ -30,7 +30,7 @@ length-runs content c n s v cells held are room =
     let front = length-take-le v bytes (omega (arith, long, valid, enough)) in
     length-append (take v bytes) (replicate (s - v) 0) ∙ omega (arith, front, length-replicate {A = ℕ} (s - v) 0, valid)
 
-bytes-length : (g : Geometry) (content : List ℕ) (s : Stream ℕ) → CanRead (length content) g s → length (allocation_bytes g content s) ≡ allocation_length s
+pub bytes-length : (g : Geometry) (content : List ℕ) (s : Stream ℕ) → CanRead (length content) g s → length (allocation_bytes g content s) ≡ allocation_length s
 unfolding bytes_of_stream
 bytes-length g content s can = by s.is_resident refl
   where

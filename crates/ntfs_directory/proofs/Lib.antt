@@ -4,3 +4,4 @@ mod DirectoryLemmas
 mod AllocationLemmas
 mod NextLemmas
 mod LawLemmas
+mod UpCaseLemmas

@@ -10,3 +10,4 @@ pub mod Runs
 pub mod Directory
 pub mod State
 pub mod ImageBlocks
+pub mod UpCase

@@ -70,8 +70,8 @@ impl Allocation {
     }
 }
 
-/// Reads the bytes of a stream from a place on.
-fn read_stream<G: Image>(
+/// Reads the bytes of a stream from a place on. After `Failed` the slice holds anything.
+pub(crate) fn read_stream<G: Image>(
     image: &mut G,
     geometry: &Geometry,
     stream: &Stream,

@@ -8,9 +8,11 @@ mod directory;
 mod fault;
 pub mod laws;
 mod runs;
+mod up_case;
 mod volume;
 
 pub use directory::{Directory, open_directory};
+pub use up_case::read_up_case;
 pub use volume::directory_of;
 
 #[cfg(test)]

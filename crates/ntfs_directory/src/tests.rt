@@ -1,10 +1,10 @@
-//! Walks of record 5 of small volumes: 64 clusters, $MFT of 12 records at cluster 4, index blocks of 1,024 bytes. What a
-//! walk gives is told as text: each entry's reference, and the end.
+//! Walks of record 5 of small volumes: 64 clusters, $MFT of 12 records at cluster 4, index blocks of 1,024 bytes. What
+//! a walk gives is told as text: each entry's reference, and the end.
 ghost use Rattle.ntfs_directory.specs.State.{IsOn, answered};
 ghost use Rattle.ntfs_volume.specs.Opened.{HasClusters};
 ghost use Rattle.std.specs.Prelude.{◌≡◌, None};
 
-use crate::{Directory, directory_of, open_directory};
+use crate::{Directory, directory_of, open_directory, read_up_case};
 use ntfs_base::{Image, Leaves, MemImage};
 use ntfs_volume::{Table, Volume, VolumeFault, open_volume, read_table};
 use std::alloc::{AllocError, Global};
@@ -520,6 +520,66 @@ fn each_read_failing_alone_is_a_read_fault(rt: HostRuntime) -> Result<(), Fail> 
         let told = walked(alloc, &mut image, 5)?;
         assert_eq!(rt; told.as_str(), "read fault");
         assert_eq!(rt; image.inside.calls.made, failing);
+    }
+    Ok(())
+}
+
+/// A volume of 64 clusters of 4,096 bytes, whose record 10 has the units from 0 on in clusters 20 to 51, so that each
+/// but 0x61 is its own upper-case unit; with a byte put at a place of that record.
+fn with_up_case(alloc: Global, place: usize, byte: u8) -> Result<Vec<u8>, AllocError> {
+    let shape = Shape {
+        sectors: 8,
+        root: &[END],
+        allocation: None,
+        blocks: &[],
+    };
+    let mut bytes = volume(alloc, &shape)?;
+    let record_10 = 4 * 4096 + 10 * 1024;
+    record(&mut bytes, record_10, 10, 0);
+    let told = (&[0x11, 32, 20][..], 32, 131_072, 131_072);
+    runs(&mut bytes, record_10 + 56, [0x80, 0, 64, 0], told);
+    put(&mut bytes, record_10 + 144, &[0xFF; 4]);
+    for unit in 0..65_536u32 {
+        put_unit(&mut bytes, 20 * 4096 + 2 * unit as usize, unit);
+    }
+    put(&mut bytes, 20 * 4096 + 2 * 0x61, &[0x41]);
+    put(&mut bytes, record_10.wrapping_add(place), &[byte]);
+    Ok(bytes)
+}
+
+fn put_unit(bytes: &mut [u8], place: usize, unit: u32) {
+    if place < bytes.len() && bytes.len() - place >= 2 {
+        bytes[place] = (unit % 256) as u8;
+        bytes[place + 1] = (unit / 256 % 256) as u8;
+    }
+}
+
+#[test]
+fn the_table_of_names_is_read(rt: HostRuntime) -> Result<(), Fail> {
+    let alloc = rt.alloc();
+    for (name, place, byte, want) in [
+        ("as it is", 0, b'F', "same"),
+        ("no record in use", 0, 0, "C13 10"),
+        ("no such stream", 56, 0x81, "C13 10"),
+        ("a flag", 56 + 0x0C, 1, "C13 10"),
+        ("another size", 56 + 0x30, 1, "C12 10"),
+        ("less initialised", 56 + 0x3A, 1, "C13 10"),
+        ("pairs that aren't right", 56 + 72, 0x99, "C7 10"),
+    ] {
+        let mut image = MemImage::new(alloc, with_up_case(alloc, place, byte)?);
+        let mut text = String::new(alloc);
+        match read_table(alloc, &mut image) {
+            Err(_) => Err("a table")?,
+            Ok(table) => match read_up_case(alloc, &mut image, &table) {
+                Err(fault) => end_text(&mut text, Err(fault))?,
+                Ok(names) => {
+                    let same = names.same_name(b"a\0B\0", b"A\0B\0")
+                        && !names.same_name(b"b\0", b"B\0");
+                    text.push_str(if same { "same" } else { "other names" })?;
+                }
+            },
+        }
+        assert_eq!(rt; text.as_str(), want, "{name}");
     }
     Ok(())
 }
