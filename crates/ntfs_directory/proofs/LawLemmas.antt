@@ -8,7 +8,7 @@ use Rattle.ntfs_index.specs.Walk.{walk, walk_allocation}
 use Rattle.ntfs_index.specs.declared.fault.IndexFault.{IndexFault}
 use Rattle.ntfs_volume.specs.MftMap.{Map}
 use Rattle.ntfs_volume.specs.declared.fault.VolumeFault.{VolumeFault}
-use Rattle.ntfs_directory.specs.Directory.{DirectoryIndex, DirectoryWalk, begun_walk, directory_walk, index_of, index_walk, only_refused, walk_found}
+use Rattle.ntfs_directory.specs.Directory.{DirectoryIndex, DirectoryWalk, begun_walk, directory_walk, directory_index, index_walk, only_refused, walk_found}
 use Rattle.ntfs_directory.specs.Fault.{directory_fault}
 
 module _ (g : Geometry) (map : Map) (image : List ℕ) (d : ℕ) where
@@ -37,8 +37,8 @@ module _ (g : Geometry) (map : Map) (image : List ℕ) (d : ℕ) where
 
   pub walk-begins : (walk : DirectoryWalk) → begun_walk g map image d ≡ Ok walk → directory_walk g map image d ≡ walk
   unfolding begun_walk directory_walk
-  walk-begins walk is = found-begins (index_of g map (cluster_at image g.cluster) d) walk is
+  walk-begins walk is = found-begins (directory_index g map (cluster_at image g.cluster) d) walk is
 
   pub walk-refused : (fault : VolumeFault) → begun_walk g map image d ≡ Err fault → directory_walk g map image d ≡ only_refused fault
   unfolding begun_walk directory_walk
-  walk-refused fault is = found-refused (index_of g map (cluster_at image g.cluster) d) fault is
+  walk-refused fault is = found-refused (directory_index g map (cluster_at image g.cluster) d) fault is

@@ -34,10 +34,10 @@ pub record DirectoryIndex : Type 0 where
   pub allocation : Stream ℕ
 
 -- the value of the root that was gathered of directory d, which must be there and be resident
-abbrev pub root_value : ℕ → Result (Gathered ℕ) VolumeFault → Result (List ℕ) VolumeFault
-root_value d (Ok found) = if found.stream.is_resident then Ok found.stream.value else Err (unwalkable d)
-root_value d (Err volume.NoAttribute) = Err (unwalkable d)
-root_value d (Err fault) = Err fault
+abbrev pub index_root_value : ℕ → Result (Gathered ℕ) VolumeFault → Result (List ℕ) VolumeFault
+index_root_value d (Ok found) = if found.stream.is_resident then Ok found.stream.value else Err (unwalkable d)
+index_root_value d (Err volume.NoAttribute) = Err (unwalkable d)
+index_root_value d (Err fault) = Err fault
 
 -- the allocation that was gathered, which may be missing
 abbrev pub allocation_found : Result (Gathered ℕ) VolumeFault → Result (Stream ℕ) VolumeFault
@@ -46,9 +46,9 @@ allocation_found (Err volume.NoAttribute) = Ok (allocation_of None)
 allocation_found (Err fault) = Err fault
 
 -- the index of directory d of a volume with this map, of which f gives the bytes of each cluster
-unfoldable pub index_of : Geometry → Map → (ℕ → List ℕ) → ℕ → Result DirectoryIndex VolumeFault
-index_of g map f d = do
-  root ← root_value d (gather_of g map f d root_kind index_name)
+unfoldable pub directory_index : Geometry → Map → (ℕ → List ℕ) → ℕ → Result DirectoryIndex VolumeFault
+directory_index g map f d = do
+  root ← index_root_value d (gather_of g map f d root_kind index_name)
   allocation ← allocation_found (gather_of g map f d allocation_kind index_name)
   Ok (record { root = root; allocation = allocation })
 
@@ -79,11 +79,11 @@ walk_found g image d (Err fault) = only_refused fault
 
 -- the walk of directory d of a volume with this map
 unfoldable pub directory_walk : Geometry → Map → List ℕ → ℕ → DirectoryWalk
-directory_walk g map image d = walk_found g image d (index_of g map (cluster_at image g.cluster) d)
+directory_walk g map image d = walk_found g image d (directory_index g map (cluster_at image g.cluster) d)
 
 -- the same walk as it begins: it is refused where there is no index, or its root can't be entered
 unfoldable pub begun_walk : Geometry → Map → List ℕ → ℕ → Result DirectoryWalk VolumeFault
 begun_walk g map image d = do
-  index ← index_of g map (cluster_at image g.cluster) d
+  index ← directory_index g map (cluster_at image g.cluster) d
   _ ← refused_as (directory_fault d) (root_node g.block index.root)
   Ok (index_walk g image d index)

@@ -59,7 +59,7 @@ IsNextEntry old (Ok None) new key = (old ≡ whole) × (new ≡ whole)
 IsNextEntry old (Err fault) new key = IsSettled (volume_origin fault) → old ≡ only_refused fault
 
 -- the key stays unless an entry is given
-abbrev pub KeepsKey : Result (Option Entry) VolumeFault → List ℕ → List ℕ → Type 0
-KeepsKey (Ok (Some entry)) old new = Unit {0}
-KeepsKey (Ok None) old new = new ≡ old
-KeepsKey (Err fault) old new = new ≡ old
+abbrev pub KeepsEntryKey : Result (Option Entry) VolumeFault → List ℕ → List ℕ → Type 0
+KeepsEntryKey (Ok (Some entry)) old new = Unit {0}
+KeepsEntryKey (Ok None) old new = new ≡ old
+KeepsEntryKey (Err fault) old new = new ≡ old

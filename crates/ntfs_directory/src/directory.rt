@@ -4,9 +4,9 @@ ghost use Rattle.std.specs.Prelude.{◌≡◌, ◌≤◌, ℕ, Some, None, Err, 
 ghost use Rattle.ntfs_base.specs.Bytes.{cluster_at};
 ghost use Rattle.ntfs_base.specs.Frames.{Gives, IfTold, IsJudged, IsSettled, OnlyReads, refused_as};
 ghost use Rattle.ntfs_boot.specs.Geometry.{IsGood, IsOpened};
-ghost use Rattle.ntfs_directory.specs.Directory.{allocation_found, allocation_kind, begun_walk, index_name, root_kind, root_value};
+ghost use Rattle.ntfs_directory.specs.Directory.{allocation_found, allocation_kind, begun_walk, index_name, root_kind, index_root_value};
 ghost use Rattle.ntfs_directory.specs.Fault.{directory_fault, unwalkable};
-ghost use Rattle.ntfs_directory.specs.State.{DirectoryState, IsNextEntry, IsOn, IsSameDirectory, KeepsKey, answered, left_of};
+ghost use Rattle.ntfs_directory.specs.State.{DirectoryState, IsNextEntry, IsOn, IsSameDirectory, KeepsEntryKey, answered, left_of};
 ghost use Rattle.ntfs_index.specs.Blocks.{BlockMap};
 ghost use Rattle.ntfs_index.specs.Node.{root_node};
 ghost use Rattle.ntfs_index.specs.Fetches.{index_origin};
@@ -63,7 +63,7 @@ fn gather_root<G: Image>(
 ) -> Result<Stream, VolumeFault>
     requires held { HasClusters (G.seen image.old).size table.now }
     ensures gives { IfTold G.Image image.old (λ content. Gives volume_origin (λ found. found.stream.value)
-        (root_value number (gather_of table.now.geometry table.now.map
+        (index_root_value number (gather_of table.now.geometry table.now.map
         (cluster_at content table.now.geometry.cluster) number root_kind index_name)) result) }
     ensures resident { IfOk result (λ found. found.stream.is_resident ≡ true) }
     ensures reads { OnlyReads G.Image volume_origin image.old image.new result }
@@ -249,7 +249,7 @@ impl Directory {
             (result ≡ Err fault) × (self.new ≡ self.old) × (image.new ≡ image.old) }
         ensures faulted { IfErr result (λ fault. answered self.new ≡ Some fault) }
         ensures sound { OnOk result (answered self.new ≡ None) }
-        ensures key { KeepsKey result self.old.walk.key self.new.walk.key }
+        ensures key { KeepsEntryKey result self.old.walk.key self.new.walk.key }
         ensures same { IsSameDirectory self.old self.new }
     {
         let answer = next_entry(&mut self.walk, &self.allocation, image, table.geometry());

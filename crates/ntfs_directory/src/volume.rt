@@ -3,7 +3,7 @@
 ghost use Rattle.std.specs.Prelude.{◌≡◌, Some, None, Err, IfErr, IfOk, OnOk};
 ghost use Rattle.ntfs_base.specs.Frames.{Gives, IfTold, OnlyReads};
 ghost use Rattle.ntfs_directory.specs.Directory.{begun_walk};
-ghost use Rattle.ntfs_directory.specs.State.{IsNextEntry, IsOn, IsSameDirectory, KeepsKey, answered, left_of};
+ghost use Rattle.ntfs_directory.specs.State.{IsNextEntry, IsOn, IsSameDirectory, KeepsEntryKey, answered, left_of};
 ghost use Rattle.ntfs_index.specs.State.{IsBegun};
 ghost use Rattle.ntfs_volume.specs.Fault.{volume_origin};
 ghost use Rattle.ntfs_volume.specs.Opened.{HasClusters};
@@ -52,7 +52,7 @@ impl Directory {
             × (volume.new.image.now ≡ volume.old.image.now) }
         ensures faulted { IfErr result (λ fault. answered self.new ≡ Some fault) }
         ensures sound { OnOk result (answered self.new ≡ None) }
-        ensures key { KeepsKey result self.old.walk.key self.new.walk.key }
+        ensures key { KeepsEntryKey result self.old.walk.key self.new.walk.key }
         ensures same { IsSameDirectory self.old self.new }
         ensures same_reference { volume.new.image.ghost_name ≡ volume.old.image.ghost_name }
         ensures kept { volume.new.table ≡ volume.old.table }
