@@ -12,8 +12,8 @@ use std::marker::{Brand, PhantomData};
 /// What proofs alone know of an image that is lent: how often its writes had failed, and by which reference it is lent.
 ///
 /// A walk tells of its blocks what `Blocks` says, and of their image no more than that it is seen as before and that
-/// its count of failed reads hasn't fallen. That they still hold that reference, and that the count of failed writes hasn't
-/// fallen either, stands in their type.
+/// its count of failed reads hasn't fallen. That they still hold that reference, and that the count of failed writes
+/// hasn't fallen either, stands in their type.
 pub(crate) trait Lending {
     ghost writes: { ℕ };
 
