@@ -1,0 +1,5 @@
+mod OwnedLemmas
+mod FoundLemmas
+mod FoldLemmas
+mod RecordLemmas
+mod SlotsLemmas
