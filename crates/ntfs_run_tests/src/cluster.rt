@@ -33,13 +33,7 @@ fn clusters_of_a_made_volume_are_counted(rt: HostRuntime) -> Result<(), Fail> {
 fn words_and_images_are_refused(rt: HostRuntime) -> Result<(), Fail> {
     let empty = Image::of(0);
     let line = Case::refuses(&INFO, empty, LINE, 1, "ntfscluster: usage: line\n");
-    let absent = Case::refuses(
-        &INFO,
-        empty,
-        NO_IMAGE,
-        2,
-        "ntfscluster: no such file: w\n",
-    );
+    let absent = Case::refuses(&INFO, empty, NO_IMAGE, 2, "ntfscluster: no such file: w\n");
     let cases = [
         line.with_words(&["ntfscluster"]),
         line.with_words(&["ntfscluster", "-i"]),
