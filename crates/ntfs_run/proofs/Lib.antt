@@ -5,4 +5,5 @@ pub mod ToolLemmas
 pub mod MakeLemmas
 pub mod InfoLemmas
 pub mod CatLemmas
+pub mod ClusterLemmas
 pub mod ReplyLemmas

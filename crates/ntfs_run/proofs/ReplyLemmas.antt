@@ -12,6 +12,7 @@ use Rattle.ntfs_base.specs.declared.refusal.UsageKind.{UsageKind}
 use Rattle.ntfs_base.specs.declared.shelf.Shelf as shelf
 use Rattle.ntfs_base.specs.declared.sink.Sink as sink
 use Rattle.ntfs_run.specs.Cat.{CatRefuses}
+use Rattle.ntfs_run.specs.Cluster.{ClusterRefuses}
 use Rattle.ntfs_run.specs.Command.{CanMisuse, Command, command_in, command_of, reading_of, tool_for, tool_of}
 use Rattle.ntfs_run.specs.Info.{InfoRefuses}
 use Rattle.ntfs_run.specs.Make.{MakeRefuses}
@@ -21,7 +22,7 @@ use Rattle.ntfs_run.specs.Reply.{CanAnswer, IfDone, ToolRefuses, LeavesFiles, Pu
 use Rattle.ntfs_run.proofs.CatLemmas.{puts_stream}
 use Rattle.ntfs_run.specs.declared.request.Request.{Request}
 use Rattle.ntfs_run.specs.declared.request.Tool.{Tool}
-use Rattle.ntfs_run.specs.declared.request.Tool.TheVariants.{Info, Cat, Make}
+use Rattle.ntfs_run.specs.declared.request.Tool.TheVariants.{Info, Cat, Cluster, Make}
 use Rattle.ntfs_run.specs.declared.status.Status.{Status}
 use Rattle.ntfs_run.specs.declared.status.Status.TheVariants as status
 
@@ -43,6 +44,11 @@ cat_other status.Done is = is
 cat_other (status.Usage kind) is = is
 cat_other other is = tt
 
+cluster_other : (fault : Status) → ClusterRefuses fault → IsOther fault
+cluster_other status.Done is = is
+cluster_other (status.Usage kind) is = is
+cluster_other other is = tt
+
 make_other : (fault : Status) → MakeRefuses fault → IsOther fault
 make_other status.Done is = is
 make_other (status.Usage kind) is = is
@@ -51,6 +57,7 @@ make_other other is = tt
 is_other : (tool : Tool) (fault : Status) → ToolRefuses tool fault → IsOther fault
 is_other Info fault is = info_other fault is
 is_other Cat fault is = cat_other fault is
+is_other Cluster fault is = cluster_other fault is
 is_other Make fault is = make_other fault is
 
 -- Usage comes exactly where the words are refused

@@ -10,12 +10,14 @@ use Rattle.ntfs_base.specs.Frames.{must, ◌>>=◌}
 use Rattle.ntfs_base.specs.declared.refusal.UsageKind.{UsageKind}
 use Rattle.ntfs_base.specs.declared.refusal.UsageKind.TheVariants as usage
 use Rattle.ntfs_make.specs.Shape.{IsShape, shape_of}
+use Rattle.ntfs_show.specs.declared.owner_query.OwnerQuery.{OwnerQuery}
+use Rattle.ntfs_show.specs.declared.owner_query.OwnerQuery.TheVariants as owner_query
 use Rattle.ntfs_run.specs.Make.{is_in_range}
 use Rattle.ntfs_run.specs.Numbers.{number_of}
 use Rattle.ntfs_run.specs.declared.request.Request.{Request}
 use Rattle.ntfs_run.specs.declared.request.Request.TheVariants as request
 use Rattle.ntfs_run.specs.declared.request.Tool.{Tool}
-use Rattle.ntfs_run.specs.declared.request.Tool.TheVariants.{Info, Cat, Make}
+use Rattle.ntfs_run.specs.declared.request.Tool.TheVariants.{Info, Cat, Cluster, Make}
 
 -- ---- the tool
 
@@ -23,6 +25,7 @@ use Rattle.ntfs_run.specs.declared.request.Tool.TheVariants.{Info, Cat, Make}
 unfoldable pub tool_name : Tool → List ℕ
 tool_name Info = codes "ntfsinfo"
 tool_name Cat = codes "ntfscat"
+tool_name Cluster = codes "ntfscluster"
 tool_name Make = codes "ntfsmake"
 
 -- the tool that a word names
@@ -30,7 +33,8 @@ unfoldable pub tool_named : List ℕ → Option Tool
 tool_named word =
     if bytes_eq word (tool_name Info) then Some Info
     else (if bytes_eq word (tool_name Cat) then Some Cat
-    else (if bytes_eq word (tool_name Make) then Some Make else None))
+    else (if bytes_eq word (tool_name Cluster) then Some Cluster
+    else (if bytes_eq word (tool_name Make) then Some Make else None)))
 
 -- the tool of a command line
 abbrev pub tool_of : List (List ℕ) → Option Tool
@@ -43,12 +47,14 @@ tool_of (word ∷ words) = tool_named word
 pub data Command : Type 0 where
   info : (image : List ℕ) → Command
   cat : (image : List ℕ) (number : ℕ) → Command
+  owners : (image : List ℕ) (query : OwnerQuery) → Command
   make : (file : List ℕ) (seed clusters cluster : ℕ) → Command
 
 -- a request of the program, its names as bytes
 abbrev pub command_of : Request → Command
 command_of (request.Info image) = info image.now
 command_of (request.Cat image number) = cat image.now number
+command_of (request.Cluster image query) = owners image.now query
 command_of (request.Make file seed clusters cluster) = make file.now seed clusters cluster
 
 -- how words were read, the names as bytes
@@ -81,6 +87,13 @@ cat_command words = do
   number ← ok_or (number_of (nth_word 2 words)) usage.Number
   Ok (cat (nth_word 3 words) number)
 
+-- ntfscluster takes exactly its own name, `-i`, and the name of an image that is no option
+unfoldable pub cluster_command : List (List ℕ) → Result Command UsageKind
+cluster_command words = do
+  line ← must (length words == 3 && (bytes_eq (nth_word 1 words) (codes "-i") && not (is_option (nth_word 2 words))))
+      usage.Line
+  Ok (owners (nth_word 2 words) owner_query.Info)
+
 -- ntfsmake takes exactly its own name, the name of a file that is no option, and three numbers in the ranges
 unfoldable pub make_command : List (List ℕ) → Result Command UsageKind
 make_command words = do
@@ -96,6 +109,7 @@ abbrev pub tool_command : Option Tool → List (List ℕ) → Result Command Usa
 tool_command None words = Err usage.Tool
 tool_command (Some Info) words = info_command words
 tool_command (Some Cat) words = cat_command words
+tool_command (Some Cluster) words = cluster_command words
 tool_command (Some Make) words = make_command words
 
 -- a command line
@@ -110,6 +124,7 @@ CanMisuse None usage.Tool = Unit {0}
 CanMisuse (Some Info) usage.Line = Unit {0}
 CanMisuse (Some Cat) usage.Line = Unit {0}
 CanMisuse (Some Cat) usage.Number = Unit {0}
+CanMisuse (Some Cluster) usage.Line = Unit {0}
 CanMisuse (Some Make) usage.Line = Unit {0}
 CanMisuse (Some Make) usage.Number = Unit {0}
 CanMisuse tool other = ⊥
@@ -118,6 +133,7 @@ CanMisuse tool other = ⊥
 abbrev pub tool_for : Command → Tool
 tool_for (info image) = Info
 tool_for (cat image number) = Cat
+tool_for (owners image query) = Cluster
 tool_for (make file seed clusters cluster) = Make
 
 -- the numbers of ntfsmake are in the ranges

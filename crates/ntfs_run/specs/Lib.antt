@@ -8,6 +8,7 @@ pub mod Code
 pub mod Outcome
 pub mod Info
 pub mod Cat
+pub mod Cluster
 pub mod Make
 pub mod Command
 pub mod Message

@@ -16,7 +16,7 @@ use Rattle.ntfs_base.specs.declared.refusal.Rule.TheVariants.{C1, C2, C3, C4, C5
 use Rattle.ntfs_base.specs.declared.refusal.Rule.TheVariants.{C14, C15, C16}
 use Rattle.ntfs_base.specs.declared.refusal.UsageKind.{UsageKind}
 use Rattle.ntfs_base.specs.declared.refusal.UsageKind.TheVariants as usage
-use Rattle.ntfs_run.specs.Command.{Command, info, cat, make, command_in, tool_name, tool_of}
+use Rattle.ntfs_run.specs.Command.{Command, info, cat, owners, make, command_in, tool_name, tool_of}
 use Rattle.ntfs_run.specs.declared.status.Status.{Status}
 use Rattle.ntfs_run.specs.declared.status.Status.TheVariants as status
 use Rattle.ntfs_run.specs.declared.request.Tool.{Tool}
@@ -123,6 +123,7 @@ tool_word (Some tool) = tool_name tool
 abbrev pub file_named : Command → Named → List ℕ
 file_named (info image) named.Image = image
 file_named (cat image number) named.Image = image
+file_named (owners image query) named.Image = image
 file_named (make file seed clusters cluster) named.Output = file
 file_named command other = []
 

@@ -11,13 +11,14 @@ use Rattle.ntfs_base.specs.declared.shelf.Shelf as shelf
 use Rattle.ntfs_base.specs.declared.sink.Sink as sink
 use Rattle.ntfs_base.specs.declared.source.Source as source
 use Rattle.ntfs_run.specs.Cat.{CatRefuses, PutsStream, cat_bytes}
-use Rattle.ntfs_run.specs.Command.{CanMisuse, Command, info, cat, make, command_in, tool_for, tool_of}
+use Rattle.ntfs_run.specs.Cluster.{ClusterRefuses, cluster_bytes}
+use Rattle.ntfs_run.specs.Command.{CanMisuse, Command, info, cat, owners, make, command_in, tool_for, tool_of}
 use Rattle.ntfs_run.specs.Info.{InfoRefuses, info_bytes}
 use Rattle.ntfs_run.specs.Make.{LeavesFile, MakeRefuses, make_work}
 use Rattle.ntfs_run.specs.Message.{message_of}
 use Rattle.ntfs_run.specs.Outcome.{Does, Outcome, outcome_of, refused_with, shows, status_origin}
 use Rattle.ntfs_run.specs.declared.request.Tool.{Tool}
-use Rattle.ntfs_run.specs.declared.request.Tool.TheVariants.{Info, Cat, Make}
+use Rattle.ntfs_run.specs.declared.request.Tool.TheVariants.{Info, Cat, Cluster, Make}
 use Rattle.ntfs_run.specs.declared.status.Status.{Status}
 use Rattle.ntfs_run.specs.declared.status.Status.TheVariants as status
 
@@ -27,12 +28,14 @@ use Rattle.ntfs_run.specs.declared.status.Status.TheVariants as status
 abbrev pub command_outcome : Command → Files → Outcome
 command_outcome (info image) files = shows files (info_bytes image files)
 command_outcome (cat image number) files = shows files (cat_bytes image number files)
+command_outcome (owners image query) files = shows files (cluster_bytes image query files)
 command_outcome (make file seed clusters cluster) files = outcome_of files (make_work file seed clusters cluster files)
 
 -- the refusals of a tool, once its words are taken
 abbrev pub ToolRefuses : Tool → Status → Type 0
 ToolRefuses Info fault = InfoRefuses fault
 ToolRefuses Cat fault = CatRefuses fault
+ToolRefuses Cluster fault = ClusterRefuses fault
 ToolRefuses Make fault = MakeRefuses fault
 
 -- what any exit leaves of the files: a tool that only shows changes none

@@ -6,6 +6,7 @@ ghost use Rattle.ntfs_run.specs.Outcome.{Does, MayWriteFiles, status_of};
 ghost use Rattle.ntfs_run.specs.Reply.{KeepsInput, LeavesFiles, CanRefuse, Replies, KeepsShelf, outcome_for};
 
 use crate::cat::cat;
+use crate::cluster::cluster;
 use crate::info::info;
 use crate::make::{MakeRequest, make_file};
 use crate::message::put_message;
@@ -60,6 +61,7 @@ fn answer<S: Shelf, O: Sink>(
         Err(kind) => Err(Status::Usage { kind }),
         Ok(Request::Info { image }) => info(image, shelf, out),
         Ok(Request::Cat { image, number }) => cat(alloc, image, number, shelf, out),
+        Ok(Request::Cluster { image, query }) => cluster(alloc, image, query, shelf, out),
         Ok(
             Request::Make {
                 file,

@@ -3,6 +3,7 @@
 #![tactic(auto)]
 
 mod cat;
+mod cluster;
 mod command;
 mod info;
 mod make;

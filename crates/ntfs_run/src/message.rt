@@ -318,6 +318,7 @@ fn file_named<'a>(request: Request<'a>, file: Named) -> &'a str
     match (request, file) {
         (Request::Info { image }, Named::Image) => image,
         (Request::Cat { image, .. }, Named::Image) => image,
+        (Request::Cluster { image, .. }, Named::Image) => image,
         (Request::Make { file, .. }, Named::Output) => file,
         _ => "",
     }

@@ -1,7 +1,7 @@
 //! What a command line asks for. The first word names the tool.
 ghost use Rattle.std.specs.Prelude.{◌≡◌, ◌≤◌, ℕ, length, map, string_bytes, IfErr, IfOk, if◌then◌else◌};
 ghost use Rattle.ntfs_make.specs.Shape.{IsShape, shape_of};
-ghost use Rattle.ntfs_run.specs.Command.{CanMisuse, HasRanges, cat_command, command_in, command_of, info_command};
+ghost use Rattle.ntfs_run.specs.Command.{CanMisuse, HasRanges, cat_command, cluster_command, command_in, command_of, info_command};
 ghost use Rattle.ntfs_run.specs.Command.{is_option};
 ghost use Rattle.ntfs_run.specs.Command.{make_command, reading_of, tool_for, tool_name, tool_named, tool_of};
 ghost use Rattle.ntfs_run.specs.Make.{is_in_range};
@@ -9,12 +9,14 @@ ghost use Rattle.ntfs_run.specs.Make.{is_in_range};
 use crate::number::number_of;
 use ntfs_base::UsageKind;
 use ntfs_make::is_in_range;
+use ntfs_show::OwnerQuery;
 
 /// The tools, by the first word of a command line.
 #[derive(Clone, Copy, Debug, PartialEq, Eq)]
 pub enum Tool {
     Info,
     Cat,
+    Cluster,
     Make,
 }
 
@@ -27,6 +29,10 @@ pub enum Request<'a> {
     Cat {
         image: &'a str,
         number: u64,
+    },
+    Cluster {
+        image: &'a str,
+        query: OwnerQuery,
     },
     Make {
         file: &'a str,
@@ -54,6 +60,8 @@ fn tool_named(word: &str) -> Option<Tool>
         Some(Tool::Info)
     } else if word == "ntfscat" {
         Some(Tool::Cat)
+    } else if word == "ntfscluster" {
+        Some(Tool::Cluster)
     } else if word == "ntfsmake" {
         Some(Tool::Make)
     } else {
@@ -70,6 +78,7 @@ pub fn tool_name(tool: Tool) -> &'static str
     match tool {
         Tool::Info => "ntfsinfo",
         Tool::Cat => "ntfscat",
+        Tool::Cluster => "ntfscluster",
         Tool::Make => "ntfsmake",
     }
 }
@@ -86,6 +95,7 @@ pub fn read_request<'a>(words: &'a [String]) -> Result<Request<'a>, UsageKind>
         None => Err(UsageKind::Tool),
         Some(Tool::Info) => info_request(words),
         Some(Tool::Cat) => cat_request(words),
+        Some(Tool::Cluster) => cluster_request(words),
         Some(Tool::Make) => make_request(words),
     }
 }
@@ -120,6 +130,24 @@ fn cat_request<'a>(words: &'a [String]) -> Result<Request<'a>, UsageKind>
         Ok(Request::Cat {
             image: words[3].as_str(),
             number,
+        })
+    } else {
+        Err(UsageKind::Line)
+    }
+}
+
+/// `ntfscluster -i IMAGE`
+#[tactic(auto, unfolding(crate::specs::Command::cluster_command))]
+fn cluster_request<'a>(words: &'a [String]) -> Result<Request<'a>, UsageKind>
+    ensures reading { reading_of result ≡ cluster_command (map string_bytes words.entry.now) }
+    ensures ranges { IfOk result (λ request. HasRanges (command_of request)) }
+    ensures kinds { IfErr result (CanMisuse (Some Tool.Cluster)) }
+    ensures tool { IfOk result (λ request. tool_for (command_of request) ≡ Tool.Cluster) }
+{
+    if words.len() == 3 && words[1].as_str() == "-i" && !is_option(words[2].as_str()) {
+        Ok(Request::Cluster {
+            image: words[2].as_str(),
+            query: OwnerQuery::Info,
         })
     } else {
         Err(UsageKind::Line)

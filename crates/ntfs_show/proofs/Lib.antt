@@ -1,3 +1,6 @@
 pub mod AnswerLemmas
 pub mod BufferLemmas
 pub mod CatLemmas
+pub mod CoverLemmas
+pub mod SlotLemmas
+pub mod OwnersLemmas

@@ -6,7 +6,7 @@ use Rattle.std.specs.Int.{w64, to_be_bytes}
 use Rattle.hex.specs.Hex.{encode_lower}
 use Rattle.ntfs_boot.specs.declared.geometry.Geometry.{Geometry}
 use Rattle.ntfs_show.specs.declared.info.Label.{Label}
-use Rattle.ntfs_show.specs.declared.info.Label.TheVariants.{SectorSize, ClusterSize, RecordSize, IndexBlockSize, Sectors, Clusters, MftCluster, MirrorCluster, Serial}
+use Rattle.ntfs_show.specs.declared.info.Label.TheVariants.{SectorSize, ClusterSize, RecordSize, IndexBlockSize, Sectors, Clusters, MftCluster, MirrorCluster, Serial, Owned, Bad, Free}
 
 -- the text in front of each value; the word is ours
 unfoldable pub label_text : Label → List ℕ
@@ -19,6 +19,9 @@ label_text Clusters = codes "clusters: "
 label_text MftCluster = codes "mft cluster: "
 label_text MirrorCluster = codes "mirror cluster: "
 label_text Serial = codes "serial: "
+label_text Owned = codes "owned: "
+label_text Bad = codes "bad: "
+label_text Free = codes "free: "
 
 -- the line feed
 abbrev pub line_end : List ℕ

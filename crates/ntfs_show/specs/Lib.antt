@@ -3,3 +3,4 @@ pub use Rattle.ntfs_boot.specs.Geometry
 pub mod Fault
 pub mod Info
 pub mod Cat
+pub mod Owners

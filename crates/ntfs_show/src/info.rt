@@ -9,7 +9,7 @@ use ntfs_boot::Geometry;
 
 /// What a line is about.
 #[derive(Clone, Copy)]
-enum Label {
+pub(crate) enum Label {
     SectorSize,
     ClusterSize,
     RecordSize,
@@ -19,6 +19,9 @@ enum Label {
     MftCluster,
     MirrorCluster,
     Serial,
+    Owned,
+    Bad,
+    Free,
 }
 
 /// Prints the geometry of a volume in nine lines, and takes no memory.
@@ -57,7 +60,7 @@ fn text_of(geometry: &Geometry) -> Line
     text
 }
 
-fn push_number_line(text: &mut Line, label: Label, number: u64)
+pub(crate) fn push_number_line(text: &mut Line, label: Label, number: u64)
     requires { length text.old + 40 ≤ 512 }
     ensures value { text.new ≡ text.old ++ number_line label number }
     ensures room { length text.new ≤ length text.old + 40 }
@@ -92,5 +95,8 @@ fn label_text(label: Label) -> &'static [u8]
         Label::MftCluster => b"mft cluster: ",
         Label::MirrorCluster => b"mirror cluster: ",
         Label::Serial => b"serial: ",
+        Label::Owned => b"owned: ",
+        Label::Bad => b"bad: ",
+        Label::Free => b"free: ",
     }
 }

@@ -1,12 +1,15 @@
-//! What the tools print: the geometry of a volume, and the streams of its records.
+//! What the tools print: the geometry of a volume, the streams of its records, and who owns its clusters.
 #![tactic(auto)]
 
+mod cover;
 mod fault;
 mod info;
+mod owner_query;
 mod streams;
 
 pub use fault::ShowFault;
 pub use info::info_volume;
+pub use owner_query::{OwnerQuery, owners, show_owners};
 pub use streams::{cat, cat_stream};
 
 #[cfg(test)]

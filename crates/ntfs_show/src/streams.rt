@@ -16,7 +16,7 @@ use ntfs_volume::{Stream, Table, Volume};
 use std::alloc::{AllocError, Global};
 
 /// So many bytes of 0.
-fn zeros(alloc: Global, count: usize) -> Result<Vec<u8>, AllocError>
+pub(crate) fn zeros(alloc: Global, count: usize) -> Result<Vec<u8>, AllocError>
     ensures { IfOk result (λ bytes. vec_len bytes ≡ count) }
 {
     vec![in alloc; 0; count]

@@ -1,7 +1,7 @@
 //! Streams of a small volume: 64 clusters of 1,024 bytes, $MFT of 32 records at cluster 4, the mirror at 40.
 ghost use Rattle.std.specs.Prelude.{◌<◌, ◌^◌};
 
-use crate::{ShowFault, cat, cat_stream};
+use crate::{OwnerQuery, ShowFault, cat, cat_stream, owners, show_owners};
 use ntfs_base::{Image, Leaves, MemImage, MemSink, Missing, Rule, Sink};
 use ntfs_volume::{VolumeFault, open_volume, read_table};
 use std::alloc::{AllocError, Global};
@@ -510,5 +510,185 @@ fn showing_is_whole(rt: &impl Abort, host: &HostRuntime) -> Result<bool, Fail> {
 #[test]
 fn with_ample_memory_a_stream_is_put(rt: HostRuntime) -> Result<(), Fail> {
     assert!(rt; showing_is_whole(&rt, &rt)?);
+    Ok(())
+}
+
+/// Asks for the summary of a volume at types that are known by their bounds alone.
+fn count<G: Image, K: Sink>(
+    alloc: Global,
+    image: &mut G,
+    out: &mut K,
+) -> Result<Result<(), ShowFault>, VolumeFault> {
+    let mut volume = open_volume(alloc, image)?;
+    Ok(owners(alloc, &mut volume, &OwnerQuery::Info, out))
+}
+
+/// Asks for it by the table of a volume alone.
+fn count_by_table<G: Image, K: Sink>(
+    alloc: Global,
+    image: &mut G,
+    out: &mut K,
+) -> Result<Result<(), ShowFault>, VolumeFault> {
+    let table = read_table(alloc, image)?;
+    Ok(show_owners(alloc, image, &table, &OwnerQuery::Info, out))
+}
+
+/// Both calls answer this over a volume, and put these bytes.
+fn counts(
+    rt: &impl Abort,
+    alloc: Global,
+    bytes: &[u8],
+    answer: Result<(), ShowFault>,
+    want: &[u8],
+) -> Result<(), Fail> {
+    let mut image = MemImage::new(alloc, Vec::from_slice(alloc, bytes)?);
+    let mut out = MemSink::new(alloc);
+    assert_eq!(rt; count(alloc, &mut image, &mut out), Ok(answer));
+    assert_eq!(rt; out.content.as_slice(), want);
+    let mut out = MemSink::new(alloc);
+    assert_eq!(rt; count_by_table(alloc, &mut image, &mut out), Ok(answer));
+    assert_eq!(rt; out.content.as_slice(), want);
+    Ok(())
+}
+
+/// A hole of three VCNs and the clusters 60 and 61, of a stream of bad clusters.
+const BAD: Told<'static> = Told {
+    name: b"$\0B\0a\0d\0",
+    next: 5,
+    pairs: &[0x01, 3, 0x11, 2, 60, 0],
+    ..TWO
+};
+
+/// The clusters 61 and 62, of another extent of it.
+const MORE_BAD: Told<'static> = Told {
+    lowest: 5,
+    next: 7,
+    pairs: &[0x11, 2, 61, 0],
+    ..BAD
+};
+
+/// Record 8 has a stream of this name, and behind it another one of that name.
+fn two_streams(bytes: &mut [u8], first: &[u8], second: &[u8]) {
+    begin(bytes, 8, 0);
+    runs(bytes, 8, 56, Told { name: first, ..BAD });
+    runs(
+        bytes,
+        8,
+        136,
+        Told {
+            name: second,
+            ..MORE_BAD
+        },
+    );
+    end(bytes, 8, 216);
+}
+
+/// Clusters 4 to 35 are those of $MFT, and 49 and 50 have several owners, of which each is counted.
+#[test]
+fn clusters_are_counted_once(rt: HostRuntime) -> Result<(), Fail> {
+    let alloc = rt.alloc();
+    let bytes = volume(alloc)?;
+    let none = b"clusters: 64\nowned: 34\nbad: 0\nfree: 30\n";
+    counts(&rt, alloc, &bytes, Ok(()), none)?;
+    let cases: [(&[u8], &[u8], &[u8]); 4] = [
+        (
+            BAD.name,
+            BAD.name,
+            b"clusters: 64\nowned: 37\nbad: 3\nfree: 27\n",
+        ),
+        (
+            BAD.name,
+            b"",
+            b"clusters: 64\nowned: 37\nbad: 2\nfree: 27\n",
+        ),
+        (
+            b"$\0B\0a\0",
+            BAD.name,
+            b"clusters: 64\nowned: 37\nbad: 2\nfree: 27\n",
+        ),
+        (
+            b"$\0b\0a\0d\0",
+            b"",
+            b"clusters: 64\nowned: 37\nbad: 0\nfree: 27\n",
+        ),
+    ];
+    for (first, second, want) in cases {
+        let mut bytes = volume(alloc)?;
+        two_streams(&mut bytes, first, second);
+        counts(&rt, alloc, &bytes, Ok(()), want)?;
+    }
+    // In another record it isn't one of bad clusters, and a record 8 that isn't in use has none.
+    let mut bytes = volume(alloc)?;
+    stream(&mut bytes, 9, BAD);
+    counts(
+        &rt,
+        alloc,
+        &bytes,
+        Ok(()),
+        b"clusters: 64\nowned: 36\nbad: 0\nfree: 28\n",
+    )?;
+    stream(&mut bytes, 8, BAD);
+    patch(&mut bytes, record_at(8) + 0x16, &[0]);
+    counts(
+        &rt,
+        alloc,
+        &bytes,
+        Ok(()),
+        b"clusters: 64\nowned: 36\nbad: 0\nfree: 28\n",
+    )?;
+    Ok(())
+}
+
+#[test]
+fn what_is_counted_must_be_right(rt: HostRuntime) -> Result<(), Fail> {
+    let alloc = rt.alloc();
+    let torn = (record_at(22) + 510, 6);
+    let pairs = (record_at(8) + 56 + 72, 0x91);
+    let cases: [(&[(usize, u8)], Rule, u64); 4] = [
+        (&[torn], Rule::C4, 22),
+        (&[pairs], Rule::C7, 8),
+        (&[pairs, torn], Rule::C4, 22),
+        (&[(record_at(8) + 510, 6)], Rule::C4, 8),
+    ];
+    for (damages, rule, number) in cases {
+        let mut bytes = volume(alloc)?;
+        two_streams(&mut bytes, BAD.name, BAD.name);
+        for (place, byte) in damages {
+            patch(&mut bytes, *place, &[*byte]);
+        }
+        counts(
+            &rt,
+            alloc,
+            &bytes,
+            Err(ShowFault::Damaged { rule, number }),
+            b"",
+        )?;
+    }
+    Ok(())
+}
+
+/// The opening reads the boot sector and record 0; then all records are read, and record 8.
+#[test]
+fn each_call_of_a_count_failing_alone(rt: HostRuntime) -> Result<(), Fail> {
+    let alloc = rt.alloc();
+    for failing in 3..5 {
+        let mut image = MemImage::new(alloc, volume(alloc)?);
+        image.inside.calls.fail(alloc, failing, Leaves::Before)?;
+        let mut out = MemSink::new(alloc);
+        assert_eq!(rt;
+            count(alloc, &mut image, &mut out),
+            Ok(Err(ShowFault::ReadFault))
+        );
+        assert!(rt; out.content.is_empty());
+        assert_eq!(rt; image.inside.calls.made, failing);
+    }
+    let mut image = MemImage::new(alloc, volume(alloc)?);
+    let mut out = MemSink::new(alloc);
+    out.calls.fail(alloc, 1, Leaves::Front { bytes: 3 })?;
+    assert_eq!(rt;
+        count(alloc, &mut image, &mut out),
+        Ok(Err(ShowFault::WriteFault))
+    );
+    assert_eq!(rt; out.content.as_slice(), b"clu".as_slice());
     Ok(())
 }

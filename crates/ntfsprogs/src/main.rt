@@ -52,7 +52,7 @@ fn access_of(tool: Option<Tool>) -> Access
     ensures shows { result ≡ Access.ReadWrite → tool ≡ Some Tool.Make }
 {
     match tool {
-        None | Some(Tool::Info | Tool::Cat) => Access::ReadOnly,
+        None | Some(Tool::Info | Tool::Cat | Tool::Cluster) => Access::ReadOnly,
         Some(Tool::Make) => Access::ReadWrite,
     }
 }

@@ -1,0 +1,82 @@
+//! `ntfscluster` over a volume that `ntfsmake` makes: 1,024 clusters of 4,096 bytes.
+use crate::case::{Case, Image, NO_FAULT, all_answer, all_follow, run_over};
+use crate::statuses::{LINE, NO_IMAGE, damage_of};
+use crate::volume::BOOT_LEN;
+use ntfs_base::{MemShelf, Rule};
+use ntfs_run::Status;
+use std::test::Fail;
+
+const MAKE: [&str; 5] = ["ntfsmake", "v", "0", "1024", "4096"];
+
+const INFO: [&str; 3] = ["ntfscluster", "-i", "v"];
+
+/// Where record 22 begins, which is in use.
+const AT_RECORD_22: usize = 34_816;
+
+#[test]
+fn clusters_of_a_made_volume_are_counted(rt: HostRuntime) -> Result<(), Fail> {
+    let alloc = rt.alloc();
+    let mut shelf = MemShelf::new(alloc);
+    let empty = Image::of(0);
+    let cases = [
+        Case::puts(&MAKE, empty, b""),
+        Case::puts(
+            &INFO,
+            empty,
+            b"clusters: 1024\nowned: 119\nbad: 1\nfree: 905\n",
+        ),
+    ];
+    all_follow(&rt, alloc, &mut shelf, &cases)
+}
+
+#[test]
+fn words_and_images_are_refused(rt: HostRuntime) -> Result<(), Fail> {
+    let empty = Image::of(0);
+    let line = Case::refuses(&INFO, empty, LINE, 1, "ntfscluster: usage: line\n");
+    let absent = Case::refuses(&INFO, empty, NO_IMAGE, 2, "ntfscluster: no such file: w\n");
+    let cases = [
+        line.with_words(&["ntfscluster"]),
+        line.with_words(&["ntfscluster", "-i"]),
+        line.with_words(&["ntfscluster", "i", "v"]),
+        line.with_words(&["ntfscluster", "-i", "-v"]),
+        line.with_words(&["ntfscluster", "-i", "v", "w"]),
+        absent.with_words(&["ntfscluster", "-i", "w"]),
+        Case::refuses(
+            &INFO,
+            Image::of(512),
+            Status::NotNtfs,
+            3,
+            "ntfscluster: not an NTFS volume\n",
+        ),
+    ];
+    all_answer(&rt, rt.alloc(), b"", &cases)
+}
+
+/// Nothing is put where a record isn't right, or mapping pairs aren't.
+#[test]
+fn a_damaged_volume_is_refused(rt: HostRuntime) -> Result<(), Fail> {
+    let alloc = rt.alloc();
+    let made = run_over(alloc, &MAKE, None, NO_FAULT)?;
+    let base = made.shelf.content("v").ok_or("no file")?;
+    let image = Image::of(BOOT_LEN);
+    // The end of the first sector of record 22, and the first byte of its mapping pairs.
+    let torn = [(AT_RECORD_22 + 0x1FE, b"\x09".as_slice())];
+    let pairs = [(AT_RECORD_22 + 0x78, b"\x91".as_slice())];
+    let cases = [
+        Case::refuses(
+            &INFO,
+            image.with_bytes(&torn),
+            damage_of(Rule::C4, 22),
+            4,
+            "ntfscluster: damaged: rule C4 record 22\n",
+        ),
+        Case::refuses(
+            &INFO,
+            image.with_bytes(&pairs),
+            damage_of(Rule::C7, 22),
+            4,
+            "ntfscluster: damaged: rule C7 record 22\n",
+        ),
+    ];
+    all_answer(&rt, alloc, base, &cases)
+}
