@@ -1,6 +1,6 @@
 -- The words of one tool, in clap's own words: a tool's command is a table of rules, a line is taken where clap finds
 -- no fault in it, and then has clap's rows, one for each part that was given. The words are ours.
-use Rattle.std.specs.Prelude.{◌==◌, ℕ, Bool, true, false, List, [], length, codes, Option, Some, is_some}
+use Rattle.std.specs.Prelude.{◌==◌, ℕ, Bool, true, false, List, [], ◌∷◌, length, codes, Option, Some, is_some}
 use Rattle.std.specs.Prelude.{Result, Ok, Err, if◌then◌else◌}
 use Rattle.std.specs.Option.{ok_or, option_map_or}
 use Rattle.std.specs.Str.{bytes_eq}
@@ -87,3 +87,8 @@ word_of id rows = ok_or (text_of id rows) (Usage usage.Line)
 abbrev pub refusal_of : ErrorKind → WordsFault
 refusal_of OutOfMemory = NoMemory
 refusal_of kind = Usage usage.Line
+
+-- a word that begins with a hyphen (45), as options do
+unfoldable pub begins_with_hyphen : Text → Bool
+begins_with_hyphen [] = false
+begins_with_hyphen (c ∷ word) = c == 45

@@ -8,6 +8,7 @@ mod cluster;
 mod cp;
 mod fix;
 mod info;
+pub mod laws;
 mod line;
 mod ls;
 mod make;
