@@ -102,7 +102,3 @@ behind word image = asks_mft _ image (says_behind word image)
 pub twice : (word : Text) (words : List Text) → info_asked (word ∷ codes "-m" ∷ codes "-m" ∷ words) ≡ Err (Usage usage.Line)
 unfolding info_app clap_on_literals
 twice word words = faulty (word ∷ codes "-m" ∷ codes "-m" ∷ words) _ _ refl
-
-pub unknown : (word : Text) (words : List Text) → info_asked (word ∷ codes "-x" ∷ words) ≡ Err (Usage usage.Line)
-unfolding info_app clap_on_literals
-unknown word words = faulty (word ∷ codes "-x" ∷ words) _ _ refl

@@ -4,3 +4,4 @@ pub mod PartLemmas
 pub mod SimpleLemmas
 pub mod SpellingLemmas
 pub mod InfoLaws
+pub mod LawLemmas
