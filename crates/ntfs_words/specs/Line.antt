@@ -1,7 +1,8 @@
 -- The words of one tool, in clap's own words: a tool's command is a table of rules, a line is taken where clap finds
 -- no fault in it, and then has clap's rows, one for each part that was given. The words are ours.
-use Rattle.std.specs.Prelude.{◌==◌, ℕ, Bool, true, false, List, [], length, codes, Option, Some, is_some}
-use Rattle.std.specs.Prelude.{Result, Ok, Err, if◌then◌else◌}
+use Rattle.std.specs.Prelude.{◌==◌, ◌&&◌, ◌||◌, ℕ, Bool, true, false, not, List, [], ◌∷◌, length, codes, Option, Some}
+use Rattle.std.specs.Prelude.{is_some, Result, Ok, Err, if◌then◌else◌}
+use Rattle.std.specs.List.{list_any}
 use Rattle.std.specs.Option.{ok_or, option_map_or}
 use Rattle.std.specs.Str.{bytes_eq}
 use Rattle.clap.specs.Words.{App, Row, Rule, Text, fault_of, first_of, matches_of, new_app, new_rule}
@@ -61,6 +62,18 @@ app_with name rules = record {
   subs = [];
 }
 
+-- the same letter
+abbrev pub are_same_letter : Option ℕ → Option ℕ → Bool
+are_same_letter (Some first) (Some second) = first == second
+are_same_letter first second = false
+
+-- no letter and no name of a table stands twice; clap itself doesn't look
+unfoldable pub are_distinct : List Rule → Bool
+are_distinct [] = true
+are_distinct (rule ∷ rules) =
+    not (list_any (λ other. are_same_letter rule.short other.short || bytes_eq rule.id other.id) rules)
+    && are_distinct rules
+
 -- ---- a line
 
 -- the rows of the words, where the command takes them
@@ -87,3 +100,8 @@ word_of id rows = ok_or (text_of id rows) (Usage usage.Line)
 abbrev pub refusal_of : ErrorKind → WordsFault
 refusal_of OutOfMemory = NoMemory
 refusal_of kind = Usage usage.Line
+
+-- a word that begins with a hyphen (45), as options do
+unfoldable pub begins_with_hyphen : Text → Bool
+begins_with_hyphen [] = false
+begins_with_hyphen (c ∷ word) = c == 45

@@ -8,6 +8,7 @@ mod cluster;
 mod cp;
 mod fix;
 mod info;
+pub mod laws;
 mod line;
 mod ls;
 mod make;
@@ -25,3 +26,6 @@ pub use request::{Ask, Request, Target, WordsFault};
 pub use text::Text;
 pub use tool::{Tool, tool_name, tool_of};
 pub use words::read_words;
+
+#[cfg(test)]
+mod tests;
