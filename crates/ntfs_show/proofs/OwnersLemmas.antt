@@ -15,7 +15,7 @@ use Rattle.ntfs_volume.specs.Opened.{Opened}
 use Rattle.ntfs_volume.specs.declared.fault.VolumeFault.{VolumeFault}
 use Rattle.ntfs_volume.specs.declared.fault.VolumeFault.TheVariants as volume
 use Rattle.ntfs_show.specs.Fault.{gather_refusal, show_origin}
-use Rattle.ntfs_show.specs.Owners.{are_bad_in, attributes_at, bad_record, is_bad_in, is_bad_stream, none_if_absent, owners_outcome, owns, runs_have, summary_lines, volume_summary}
+use Rattle.ntfs_show.specs.Owners.{are_bad_in, record_attributes, bad_clusters_record, is_bad_in, is_bad_stream, none_if_absent, owners_outcome, owns, runs_have, summary_lines, volume_summary}
 use Rattle.ntfs_show.specs.declared.fault.ShowFault.{ShowFault}
 use Rattle.ntfs_show.specs.declared.owner_query.OwnerQuery.{OwnerQuery}
 use Rattle.ntfs_show.specs.declared.owner_query.OwnerQuery.TheVariants.{Info}
@@ -103,7 +103,7 @@ unfolding volume_summary
 summary-refused o f fault is = rw is refl
 
 pub summary-found : (o : Opened) (f : ℕ → List ℕ) (owners : List Owner) (n owned bad : ℕ) → refused_as (gather_refusal 0) (volume_survey o f) ≡ Ok owners
-    → n ≡ o.geometry.clusters → owned ≡ count_where (owns owners) o.geometry.clusters → bad ≡ count_where (are_bad_in (attributes_at o f bad_record)) o.geometry.clusters
+    → n ≡ o.geometry.clusters → owned ≡ count_where (owns owners) o.geometry.clusters → bad ≡ count_where (are_bad_in (record_attributes o f bad_clusters_record)) o.geometry.clusters
     → volume_summary o f ≡ Ok (record { clusters = n; owned = owned; bad = bad })
 unfolding volume_summary
 summary-found o f owners n owned bad is same owned_is bad_is = rw (is, same, owned_is, bad_is) refl

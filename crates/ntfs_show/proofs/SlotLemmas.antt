@@ -25,7 +25,7 @@ use Rattle.ntfs_volume.specs.Opened.{Opened}
 use Rattle.ntfs_volume.specs.Records.{raw_record, read_of, unfixed_record, unsound}
 use Rattle.ntfs_volume.specs.declared.fault.VolumeFault.{VolumeFault}
 use Rattle.ntfs_volume.specs.declared.fault.VolumeFault.TheVariants as volume
-use Rattle.ntfs_show.specs.Owners.{attributes_at}
+use Rattle.ntfs_show.specs.Owners.{record_attributes}
 
 abbrev Record : Type 0
 Record = Slot (Located (Laid (List ℕ)))
@@ -73,7 +73,7 @@ located-shown (p ∷ ps) = ap (λ (rest : List Shown). shown_placed p ∷ rest) 
 
 -- the attributes of a record that was read are those that its bytes say
 pub read-attributes : (o : Opened) (f : ℕ → List ℕ) (r : ℕ) (block : List ℕ) (file : FileRecord) → read_of o.geometry o.map f r ≡ Ok block → parse_of block ≡ Ok file
-    → attributes_at o f r ≡ map shown_placed (placed_of file)
+    → record_attributes o f r ≡ map shown_placed (placed_of file)
 read-attributes o f r block file read is =
     let told : Tells (record_at o f r) (Ok block) = subst (Tells (record_at o f r)) read (tells o f r) in
     let same : told.0 ≡ file = same-ok (sym told.1 ∙ is) in
@@ -91,10 +91,10 @@ read-parses o f r block fault read is =
 
 -- a record that is right is refused only where it isn't in use, and has no attributes then
 pub read-refused : (o : Opened) (f : ℕ → List ℕ) (r : ℕ) (fault : VolumeFault) → is_whole (record_at o f r) ≡ true → read_of o.geometry o.map f r ≡ Err fault
-    → (fault ≡ volume.Absent) × (attributes_at o f r ≡ [])
+    → (fault ≡ volume.Absent) × (record_attributes o f r ≡ [])
 read-refused o f r fault whole read = by_case (subst (Tells (record_at o f r)) read (tells o f r))
   where
-    by_case : Tells (record_at o f r) (Err fault) → (fault ≡ volume.Absent) × (attributes_at o f r ≡ [])
+    by_case : Tells (record_at o f r) (Err fault) → (fault ≡ volume.Absent) × (record_attributes o f r ≡ [])
     by_case (inl (absent, baad, is)) = (absent, ap (λ (slot : Record). map shown_located slot.attributes) is)
     by_case (inr broken) = absurd cc
 

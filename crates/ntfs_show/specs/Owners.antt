@@ -38,14 +38,14 @@ unfoldable pub runs_have : List Run → ℕ → Bool
 runs_have runs k = list_any (λ run. row_has k run.length run.lcn) runs
 
 -- what is shown of the attributes of record r, in their order; a record that isn't in use has none
-abbrev pub attributes_at : Opened → (ℕ → List ℕ) → ℕ → List Shown
-attributes_at o f r = map shown_located (record_at o f r).attributes
+abbrev pub record_attributes : Opened → (ℕ → List ℕ) → ℕ → List Shown
+record_attributes o f r = map shown_located (record_at o f r).attributes
 
 -- ---- which are bad
 
 -- the number of the record of bad clusters ("$BadClus")
-abbrev pub bad_record : ℕ
-bad_record = 8
+abbrev pub bad_clusters_record : ℕ
+bad_clusters_record = 8
 
 -- the bytes of the name of their stream, $Bad ("$BadClus")
 unfoldable pub bad_name : List ℕ
@@ -82,7 +82,7 @@ summary_of n owners attributes =
 unfoldable pub volume_summary : Opened → (ℕ → List ℕ) → Result Summary ShowFault
 volume_summary o f = do
   owners ← refused_as (gather_refusal 0) (volume_survey o f)
-  Ok (summary_of o.geometry.clusters owners (attributes_at o f bad_record))
+  Ok (summary_of o.geometry.clusters owners (record_attributes o f bad_clusters_record))
 
 -- its four lines; free are the clusters that have no owner
 unfoldable pub summary_lines : Summary → List ℕ

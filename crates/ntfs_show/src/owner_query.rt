@@ -6,7 +6,7 @@ ghost use Rattle.ntfs_base.specs.Frames.{Copies, Gives, IfTold, OnlyPuts, OnlyRe
 ghost use Rattle.ntfs_bitmap.specs.ClusterSet.{bound_of, count_where, has};
 ghost use Rattle.ntfs_record.specs.Views.{placed_of, shown_body, shown_placed, shown_view};
 ghost use Rattle.ntfs_show.specs.Fault.{gather_refusal, show_origin};
-ghost use Rattle.ntfs_show.specs.Owners.{are_bad_in, attributes_at, bad_name, bad_record, is_bad_in, is_bad_stream, none_if_absent, owners_outcome, runs_have, summary_lines, volume_summary};
+ghost use Rattle.ntfs_show.specs.Owners.{are_bad_in, record_attributes, bad_name, bad_clusters_record, is_bad_in, is_bad_stream, none_if_absent, owners_outcome, runs_have, summary_lines, volume_summary};
 ghost use Rattle.ntfs_survey.specs.Owned.{is_whole, runs_in, volume_survey};
 ghost use Rattle.ntfs_survey.specs.Surveying.{record_at};
 ghost use Rattle.ntfs_volume.specs.Opened.{HasClusters};
@@ -152,9 +152,9 @@ fn bad_by_record<G: Image>(
     requires held { HasClusters (G.seen image.old).size table.now }
     requires block { length block.old ≡ table.now.geometry.record_size }
     ensures gives { IfTold G.Image image.old (λ content.
-        is_whole (record_at table.now (cluster_at content table.now.geometry.cluster) bad_record) ≡ true
-        → Gives show_origin (λ count. count) (Ok (count_where (are_bad_in (attributes_at table.now
-        (cluster_at content table.now.geometry.cluster) bad_record)) table.now.geometry.clusters)) result) }
+        is_whole (record_at table.now (cluster_at content table.now.geometry.cluster) bad_clusters_record) ≡ true
+        → Gives show_origin (λ count. count) (Ok (count_where (are_bad_in (record_attributes table.now
+        (cluster_at content table.now.geometry.cluster) bad_clusters_record)) table.now.geometry.clusters)) result) }
     ensures reads { OnlyReads G.Image show_origin image.old image.new result }
 {
     match table.read_record(image, BAD_RECORD, block) {
@@ -173,9 +173,9 @@ fn bad_by_record<G: Image>(
 fn bad_count<G: Image>(alloc: Global, image: &mut G, table: &Table) -> Result<u64, ShowFault>
     requires held { HasClusters (G.seen image.old).size table.now }
     ensures gives { IfTold G.Image image.old (λ content.
-        is_whole (record_at table.now (cluster_at content table.now.geometry.cluster) bad_record) ≡ true
-        → Gives show_origin (λ count. count) (Ok (count_where (are_bad_in (attributes_at table.now
-        (cluster_at content table.now.geometry.cluster) bad_record)) table.now.geometry.clusters)) result) }
+        is_whole (record_at table.now (cluster_at content table.now.geometry.cluster) bad_clusters_record) ≡ true
+        → Gives show_origin (λ count. count) (Ok (count_where (are_bad_in (record_attributes table.now
+        (cluster_at content table.now.geometry.cluster) bad_clusters_record)) table.now.geometry.clusters)) result) }
     ensures reads { OnlyReads G.Image show_origin image.old image.new result }
 {
     let mut block = zeros(alloc, table.geometry().record_size as usize)?;
@@ -227,10 +227,10 @@ fn put_summary<K: Sink>(summary: &Summary, out: &mut K) -> Result<(), ShowFault>
 
 /// Prints what is asked about the owners of the clusters of the volume whose table is kept.
 ///
-/// The volume is surveyed first: nothing is put where a record isn't right, or mapping pairs aren't. For a summary there
-/// are four lines, `clusters: `, `owned: `, `bad: ` and `free: `, with numbers. A cluster is owned that an attribute of
-/// a record in use names, and bad where a $DATA attribute `$Bad` of record 8 itself names it; each is counted once.
-/// After a fault or want of memory a prefix of the lines was put.
+/// The volume is surveyed first: nothing is put where a record isn't right, or mapping pairs aren't. For a summary
+/// there are four lines, `clusters: `, `owned: `, `bad: ` and `free: `, with numbers. A cluster is owned that an
+/// attribute of a record in use names, and bad where a $DATA attribute `$Bad` of record 8 itself names it; each is
+/// counted once. After a fault or want of memory a prefix of the lines was put.
 pub fn show_owners<G: Image, K: Sink>(
     alloc: Global,
     image: &mut G,

@@ -9,17 +9,17 @@ use Rattle.ntfs_survey.specs.Owned.{is_whole}
 use Rattle.ntfs_survey.specs.Surveying.{record_at}
 use Rattle.ntfs_volume.specs.Opened.{Opened}
 use Rattle.ntfs_show.specs.Fault.{show_origin}
-use Rattle.ntfs_show.specs.Owners.{are_bad_in, attributes_at, bad_record, owns}
+use Rattle.ntfs_show.specs.Owners.{are_bad_in, record_attributes, bad_clusters_record, owns}
 use Rattle.ntfs_show.specs.declared.fault.ShowFault.{ShowFault}
 use Rattle.ntfs_show.proofs.OwnersLemmas.{summary-found, summary-refused, survey-gave}
 use Rattle.ntfs_show.proofs.SlotLemmas.{survey-whole}
 use Rattle.ntfs_show.proofs.owner_query.count_all.Goals as goal
 
 abbrev bad_in : Opened → List ℕ → ℕ
-bad_in o content = count_where (are_bad_in (attributes_at o (cluster_at content o.geometry.cluster) bad_record)) o.geometry.clusters
+bad_in o content = count_where (are_bad_in (record_attributes o (cluster_at content o.geometry.cluster) bad_clusters_record)) o.geometry.clusters
 
 abbrev CountsBad : Opened → Result ℕ ShowFault → List ℕ → Type 0
-CountsBad o result content = is_whole (record_at o (cluster_at content o.geometry.cluster) bad_record) ≡ true → Gives show_origin (λ count. count) (Ok (bad_in o content)) result
+CountsBad o result content = is_whole (record_at o (cluster_at content o.geometry.cluster) bad_clusters_record) ≡ true → Gives show_origin (λ count. count) (Ok (bad_in o content)) result
 
 same-count : (n k : ℕ) → ◌≡◌ {A = Result ℕ ShowFault} (Ok n) (Ok k) → k ≡ n
 same-count n k is = cc
@@ -37,7 +37,7 @@ pub returns-in_err-bad-clause-gives : goal.returns-in_err-bad-clause-gives
 returns-in_err-bad-clause-gives g c told =
     let o = c.args.table.now in
     let f = cluster_at (g.G.Image.seen c.args.image.now).content o.geometry.cluster in
-    let whole = survey-whole o f c.in_ok-survey.survey bad_record (omega (arith, c.geometry.ensures.good.least_record)) (survey-gave o f c.in_ok-survey.survey (c.in_ok-survey.ensures.gives told)) in
+    let whole = survey-whole o f c.in_ok-survey.survey bad_clusters_record (omega (arith, c.geometry.ensures.good.least_record)) (survey-gave o f c.in_ok-survey.survey (c.in_ok-survey.ensures.gives told)) in
     let bad = told_still g.G.Image _ _ (CountsBad o (Err c.in_err-bad.field-0.0)) c.in_ok-survey.ensures.reads.seen c.in_err-bad.ensures.gives told whole in
     let p = err_from_is_err_and c.from_residual-in_err-bad.result c.from_residual-in_err-bad.ensures.1 in
     rw (p.1, p.2) (λ settled. absurd (no-count (bad_in o (g.G.Image.seen c.args.image.now).content) _ (bad settled)))
@@ -47,7 +47,7 @@ returns-clause-gives g c told =
     let o = c.args.table.now in
     let f = cluster_at (g.G.Image.seen c.args.image.now).content o.geometry.cluster in
     let surveyed = c.in_ok-survey.ensures.gives told in
-    let whole = survey-whole o f c.in_ok-survey.survey bad_record (omega (arith, c.geometry.ensures.good.least_record)) (survey-gave o f c.in_ok-survey.survey surveyed) in
+    let whole = survey-whole o f c.in_ok-survey.survey bad_clusters_record (omega (arith, c.geometry.ensures.good.least_record)) (survey-gave o f c.in_ok-survey.survey surveyed) in
     let bad = told_still g.G.Image _ _ (CountsBad o (Ok c.in_ok-bad.bad)) c.in_ok-survey.ensures.reads.seen c.in_ok-bad.ensures.gives told whole in
     summary-found o f c.in_ok-survey.survey c.geometry.result.now.clusters c.in_ok-owned.owned c.in_ok-bad.bad surveyed
     (ap (λ (k : Geometry). k.clusters) c.geometry.ensures.kept)
