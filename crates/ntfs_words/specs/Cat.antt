@@ -1,6 +1,7 @@
 -- The words of ntfscat: a record by its number or its path, and a stream of it. The options are those of the public
 -- ntfsprogs; that exactly one of number and path is given is our rule.
 use Rattle.std.specs.Prelude.{List, [], ◌∷◌, codes, Option, Some, None, Result, Ok, Err}
+use Rattle.std.specs.Str.{byte}
 use Rattle.clap.specs.Words.{App, Row, Text}
 use Rattle.ntfs_base.specs.Frames.{◌>>=◌}
 use Rattle.ntfs_words.specs.Line.{app_with, line_of, needed, optional, text_of, valued, word_of}
@@ -14,9 +15,9 @@ use Rattle.ntfs_words.specs.declared.request.WordsFault.{WordsFault}
 -- the options and words
 unfoldable pub cat_app : App
 cat_app = app_with (codes "ntfscat") (
-    valued 105 (codes "inode") ∷
-    valued 97 (codes "attribute") ∷
-    valued 110 (codes "attribute-name") ∷
+    valued (byte "i") (codes "inode") ∷
+    valued (byte "a") (codes "attribute") ∷
+    valued (byte "n") (codes "attribute-name") ∷
     needed (codes "IMAGE") ∷
     optional (codes "FILE") ∷
     [])

@@ -2,7 +2,7 @@
 -- public ntfsprogs; which of them go together is our rule.
 use Rattle.std.specs.Prelude.{◌&&◌, ◌||◌, Bool, false, List, [], ◌∷◌, codes, not, Option, Some, Result, Ok}
 use Rattle.std.specs.Option.{option_or}
-use Rattle.std.specs.Str.{bytes_eq}
+use Rattle.std.specs.Str.{byte, bytes_eq}
 use Rattle.clap.specs.Words.{App, Row, Text}
 use Rattle.ntfs_base.specs.Frames.{must, ◌>>=◌}
 use Rattle.ntfs_words.specs.Line.{app_with, flag, is_given, is_on, line_of, optional, text_of, valued}
@@ -14,12 +14,12 @@ use Rattle.ntfs_words.specs.declared.request.WordsFault.{WordsFault}
 -- the options and words
 unfoldable pub clone_app : App
 clone_app = app_with (codes "ntfsclone") (
-    flag 115 (codes "save-image") ∷
-    flag 114 (codes "restore-image") ∷
-    valued 111 (codes "output") ∷
-    valued 79 (codes "overwrite") ∷
-    flag 110 (codes "no-action") ∷
-    flag 102 (codes "force") ∷
+    flag (byte "s") (codes "save-image") ∷
+    flag (byte "r") (codes "restore-image") ∷
+    valued (byte "o") (codes "output") ∷
+    valued (byte "O") (codes "overwrite") ∷
+    flag (byte "n") (codes "no-action") ∷
+    flag (byte "f") (codes "force") ∷
     optional (codes "SOURCE") ∷
     [])
 

@@ -1,6 +1,7 @@
 -- The words of ntfscluster: exactly one question about an image. The options are those of the public ntfsprogs; the
 -- rule is ours.
 use Rattle.std.specs.Prelude.{Bool, true, false, List, [], ◌∷◌, codes, is_some, Option, Some, None, Result, Ok, Err}
+use Rattle.std.specs.Str.{byte}
 use Rattle.clap.specs.Words.{App, Row, Text}
 use Rattle.ntfs_base.specs.Frames.{must, ◌>>=◌}
 use Rattle.ntfs_words.specs.Line.{app_with, flag, is_on, line_of, needed, text_of, valued, word_of}
@@ -14,10 +15,10 @@ use Rattle.ntfs_words.specs.declared.request.WordsFault.{WordsFault}
 -- the options and words
 unfoldable pub cluster_app : App
 cluster_app = app_with (codes "ntfscluster") (
-    flag 105 (codes "info") ∷
-    valued 99 (codes "cluster") ∷
-    valued 73 (codes "inode") ∷
-    valued 70 (codes "filename") ∷
+    flag (byte "i") (codes "info") ∷
+    valued (byte "c") (codes "cluster") ∷
+    valued (byte "I") (codes "inode") ∷
+    valued (byte "F") (codes "filename") ∷
     needed (codes "IMAGE") ∷
     [])
 

@@ -1,7 +1,7 @@
 -- The words of ntfscp: an image, a host file, and a record of the image by its path or its number. The options are
 -- those of the public ntfsprogs; that the two host files have two names is our rule.
 use Rattle.std.specs.Prelude.{Bool, true, false, List, [], ◌∷◌, codes, not, Result, Ok}
-use Rattle.std.specs.Str.{bytes_eq}
+use Rattle.std.specs.Str.{byte, bytes_eq}
 use Rattle.clap.specs.Words.{App, Row, Text}
 use Rattle.ntfs_base.specs.Frames.{must, ◌>>=◌}
 use Rattle.ntfs_words.specs.Line.{app_with, flag, is_on, line_of, needed, text_of, valued, word_of}
@@ -15,10 +15,10 @@ use Rattle.ntfs_words.specs.declared.request.WordsFault.{WordsFault}
 -- the options and words
 unfoldable pub cp_app : App
 cp_app = app_with (codes "ntfscp") (
-    flag 105 (codes "inode") ∷
-    valued 97 (codes "attribute") ∷
-    valued 78 (codes "attr-name") ∷
-    flag 110 (codes "no-action") ∷
+    flag (byte "i") (codes "inode") ∷
+    valued (byte "a") (codes "attribute") ∷
+    valued (byte "N") (codes "attr-name") ∷
+    flag (byte "n") (codes "no-action") ∷
     needed (codes "IMAGE") ∷
     needed (codes "SOURCE") ∷
     needed (codes "DEST") ∷

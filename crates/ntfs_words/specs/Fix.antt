@@ -1,6 +1,7 @@
 -- The words of ntfsfix: an image and what is mended. `--rebuild` is ours, the other options are those of the public
 -- ntfsprogs; which of them go together is our rule.
 use Rattle.std.specs.Prelude.{◌&&◌, ◌||◌, List, [], ◌∷◌, codes, not, Result, Ok}
+use Rattle.std.specs.Str.{byte}
 use Rattle.clap.specs.Words.{App, Row, Text}
 use Rattle.ntfs_base.specs.Frames.{must, ◌>>=◌}
 use Rattle.ntfs_words.specs.Line.{app_with, flag, is_on, line_of, long_flag, needed, word_of}
@@ -12,9 +13,9 @@ use Rattle.ntfs_words.specs.declared.request.WordsFault.{WordsFault}
 -- the options and words
 unfoldable pub fix_app : App
 fix_app = app_with (codes "ntfsfix") (
-    flag 110 (codes "no-action") ∷
-    flag 100 (codes "clear-dirty") ∷
-    flag 98 (codes "clear-bad-sectors") ∷
+    flag (byte "n") (codes "no-action") ∷
+    flag (byte "d") (codes "clear-dirty") ∷
+    flag (byte "b") (codes "clear-bad-sectors") ∷
     long_flag (codes "rebuild") ∷
     needed (codes "IMAGE") ∷
     [])

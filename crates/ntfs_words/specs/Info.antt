@@ -1,5 +1,6 @@
 -- The words of ntfsinfo: `[-m|--mft] [-i|--inode NUM] IMAGE`, with exactly one option. The rule is ours.
 use Rattle.std.specs.Prelude.{List, [], ◌∷◌, codes, is_some, Result, Ok}
+use Rattle.std.specs.Str.{byte}
 use Rattle.clap.specs.Words.{App, Row, Text}
 use Rattle.ntfs_base.specs.Frames.{must, ◌>>=◌}
 use Rattle.ntfs_words.specs.Line.{app_with, flag, is_on, line_of, needed, text_of, valued, word_of}
@@ -8,11 +9,13 @@ use Rattle.ntfs_words.specs.declared.request.Request.{Request}
 use Rattle.ntfs_words.specs.declared.request.Request.TheVariants as request
 use Rattle.ntfs_words.specs.declared.request.WordsFault.{WordsFault}
 
+-- the options and words
 unfoldable pub info_app : App
 info_app = app_with (codes "ntfsinfo") (
-    flag 109 (codes "mft") ∷
-    valued 105 (codes "inode") ∷
-    needed (codes "IMAGE") ∷ [])
+    flag (byte "m") (codes "mft") ∷
+    valued (byte "i") (codes "inode") ∷
+    needed (codes "IMAGE") ∷
+    [])
 
 -- what a line that is taken asks for
 unfoldable pub info_request : List Row → Result Request WordsFault

@@ -12,4 +12,5 @@ pub mod Resize
 pub mod Fix
 pub mod Make
 pub mod Trial
+pub mod Answers
 pub mod Words

@@ -1,5 +1,6 @@
 -- The words of ntfsls: flags, and the path of a directory. The options are those of the public ntfsprogs.
 use Rattle.std.specs.Prelude.{List, [], ◌∷◌, codes, Result, Ok}
+use Rattle.std.specs.Str.{byte}
 use Rattle.clap.specs.Words.{App, Row, Text}
 use Rattle.ntfs_base.specs.Frames.{◌>>=◌}
 use Rattle.ntfs_words.specs.Line.{app_with, flag, is_on, line_of, needed, text_of, valued, word_of}
@@ -10,13 +11,13 @@ use Rattle.ntfs_words.specs.declared.request.WordsFault.{WordsFault}
 -- the options and words
 unfoldable pub ls_app : App
 ls_app = app_with (codes "ntfsls") (
-    flag 97 (codes "all") ∷
-    flag 105 (codes "inode") ∷
-    flag 70 (codes "classify") ∷
-    flag 82 (codes "recursive") ∷
-    flag 115 (codes "system") ∷
-    flag 120 (codes "dos") ∷
-    valued 112 (codes "path") ∷
+    flag (byte "a") (codes "all") ∷
+    flag (byte "i") (codes "inode") ∷
+    flag (byte "F") (codes "classify") ∷
+    flag (byte "R") (codes "recursive") ∷
+    flag (byte "s") (codes "system") ∷
+    flag (byte "x") (codes "dos") ∷
+    valued (byte "p") (codes "path") ∷
     needed (codes "IMAGE") ∷
     [])
 

@@ -1,6 +1,7 @@
 //! The words of ntfscat.
 ghost use Rattle.std.specs.Prelude.{◌≡◌, IfOk, map, option_map, string_bytes};
 ghost use Rattle.clap.specs.Words.{app_of};
+ghost use Rattle.ntfs_words.specs.Answers.{IsOf};
 ghost use Rattle.ntfs_words.specs.Cat.{cat_app, cat_asked, cat_request, cat_target};
 ghost use Rattle.ntfs_words.specs.Line.{Reads};
 
@@ -8,6 +9,7 @@ use crate::line::{Line, read_line};
 use crate::part::{Part, command_of};
 use crate::request::{Request, Target, WordsFault};
 use crate::text::{Text, text_in};
+use crate::tool::Tool;
 use crate::values::{combination, kind_in, number_word};
 use clap::Command;
 use std::alloc::{AllocError, Global};
@@ -15,7 +17,8 @@ use std::alloc::{AllocError, Global};
 /// `ntfscat [-i|--inode NUM] [-a|--attribute TYPE] [-n|--attribute-name NAME] IMAGE [FILE]`
 #[tactic(auto, using(crate::proofs::SimpleLemmas::cat_is_simple), unfolding(crate::specs::Cat::cat_asked))]
 pub(crate) fn read_cat(alloc: Global, words: &[String]) -> Result<Request, WordsFault>
-    ensures { Reads (cat_asked (map string_bytes words.now)) result }
+    ensures reads { Reads (cat_asked (map string_bytes words.now)) result }
+    ensures request { IfOk result (IsOf Tool.Cat) }
 {
     let line = read_line(cat_command(alloc)?, words)?;
     cat_request(alloc, &line)
@@ -49,7 +52,8 @@ fn cat_command<'a>(alloc: Global) -> Result<Command<'a>, AllocError>
 
 #[tactic(auto, unfolding(crate::specs::Cat::cat_request))]
 fn cat_request(alloc: Global, line: &Line) -> Result<Request, WordsFault>
-    ensures { Reads (cat_request line.now) result }
+    ensures reads { Reads (cat_request line.now) result }
+    ensures request { IfOk result (IsOf Tool.Cat) }
 {
     let image = line.word("IMAGE")?;
     let target = cat_target(alloc, line.text("inode"), line.text("FILE"))?;

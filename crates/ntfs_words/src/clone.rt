@@ -1,6 +1,7 @@
 //! The words of ntfsclone.
 ghost use Rattle.std.specs.Prelude.{◌≡◌, IfOk, map, option_map, string_bytes};
 ghost use Rattle.clap.specs.Words.{app_of};
+ghost use Rattle.ntfs_words.specs.Answers.{IsOf};
 ghost use Rattle.ntfs_words.specs.Clone.{are_same, clone_app, clone_asked, clone_request, has_clash, has_gap, has_output, output_of};
 ghost use Rattle.ntfs_words.specs.Line.{Reads};
 
@@ -8,6 +9,7 @@ use crate::line::{Line, read_line};
 use crate::part::{Part, command_of};
 use crate::request::{Request, WordsFault};
 use crate::text::text_in;
+use crate::tool::Tool;
 use crate::values::{combination, same_name};
 use clap::Command;
 use std::alloc::{AllocError, Global};
@@ -16,7 +18,8 @@ use std::alloc::{AllocError, Global};
 /// [-f|--force] [SOURCE]`
 #[tactic(auto, using(crate::proofs::SimpleLemmas::clone_is_simple), unfolding(crate::specs::Clone::clone_asked))]
 pub(crate) fn read_clone(alloc: Global, words: &[String]) -> Result<Request, WordsFault>
-    ensures { Reads (clone_asked (map string_bytes words.now)) result }
+    ensures reads { Reads (clone_asked (map string_bytes words.now)) result }
+    ensures request { IfOk result (IsOf Tool.Clone) }
 {
     let line = read_line(clone_command(alloc)?, words)?;
     clone_request(alloc, &line)
@@ -61,7 +64,8 @@ fn clone_command<'a>(alloc: Global) -> Result<Command<'a>, AllocError>
 
 #[tactic(auto, unfolding(crate::specs::Clone::clone_request))]
 fn clone_request(alloc: Global, line: &Line) -> Result<Request, WordsFault>
-    ensures { Reads (clone_request line.now) result }
+    ensures reads { Reads (clone_request line.now) result }
+    ensures request { IfOk result (IsOf Tool.Clone) }
 {
     if has_clash(line) || has_gap(line) {
         return Err(combination());
@@ -126,7 +130,8 @@ fn output_of<'a>(line: &Line<'a>) -> Option<&'a str>
 /// Two names are there and the same.
 #[tactic(auto, unfolding(crate::specs::Clone::are_same))]
 fn are_same(first: Option<&str>, second: Option<&str>) -> bool
-    ensures { result ≡ are_same (option_map (λ text. text.now) first.entry) (option_map (λ text. text.now) second.entry) }
+    ensures { result ≡ are_same (option_map (λ text. text.now) first.entry)
+        (option_map (λ text. text.now) second.entry) }
 {
     match (first, second) {
         (Some(first), Some(second)) => first == second,

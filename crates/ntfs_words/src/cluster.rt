@@ -1,6 +1,7 @@
 //! The words of ntfscluster.
 ghost use Rattle.std.specs.Prelude.{◌≡◌, IfOk, map, option_map, string_bytes};
 ghost use Rattle.clap.specs.Words.{app_of};
+ghost use Rattle.ntfs_words.specs.Answers.{IsOf};
 ghost use Rattle.ntfs_words.specs.Cluster.{ask_in, cluster_app, cluster_asked, cluster_request};
 ghost use Rattle.ntfs_words.specs.Line.{Reads};
 
@@ -8,6 +9,7 @@ use crate::line::{Line, read_line};
 use crate::part::{Part, command_of};
 use crate::request::{Ask, Request, WordsFault};
 use crate::text::Text;
+use crate::tool::Tool;
 use crate::values::{combination, exactly_one, number_word, range_word};
 use clap::Command;
 use std::alloc::{AllocError, Global};
@@ -15,7 +17,8 @@ use std::alloc::{AllocError, Global};
 /// `ntfscluster [-i|--info] [-c|--cluster RANGE] [-I|--inode NUM] [-F|--filename FILE] IMAGE`
 #[tactic(auto, using(crate::proofs::SimpleLemmas::cluster_is_simple), unfolding(crate::specs::Cluster::cluster_asked))]
 pub(crate) fn read_cluster(alloc: Global, words: &[String]) -> Result<Request, WordsFault>
-    ensures { Reads (cluster_asked (map string_bytes words.now)) result }
+    ensures reads { Reads (cluster_asked (map string_bytes words.now)) result }
+    ensures request { IfOk result (IsOf Tool.Cluster) }
 {
     let line = read_line(cluster_command(alloc)?, words)?;
     cluster_request(alloc, &line)
@@ -52,7 +55,8 @@ fn cluster_command<'a>(alloc: Global) -> Result<Command<'a>, AllocError>
 
 #[tactic(auto, unfolding(crate::specs::Cluster::cluster_request))]
 fn cluster_request(alloc: Global, line: &Line) -> Result<Request, WordsFault>
-    ensures { Reads (cluster_request line.now) result }
+    ensures reads { Reads (cluster_request line.now) result }
+    ensures request { IfOk result (IsOf Tool.Cluster) }
 {
     let image = line.word("IMAGE")?;
     let info = line.is_on("info");
@@ -76,8 +80,8 @@ fn ask_in(
     number: Option<&str>,
     path: Option<&str>,
 ) -> Result<Ask, WordsFault>
-    ensures { Reads (ask_in info (option_map (λ text. text.now) range.entry) (option_map (λ text. text.now) number.entry)
-        (option_map (λ text. text.now) path.entry)) result }
+    ensures { Reads (ask_in info (option_map (λ text. text.now) range.entry)
+        (option_map (λ text. text.now) number.entry) (option_map (λ text. text.now) path.entry)) result }
 {
     if info {
         return Ok(Ask::Info);

@@ -1,6 +1,7 @@
 //! The words of ntfscp.
 ghost use Rattle.std.specs.Prelude.{◌≡◌, IfOk, map, string_bytes};
 ghost use Rattle.clap.specs.Words.{app_of};
+ghost use Rattle.ntfs_words.specs.Answers.{IsOf};
 ghost use Rattle.ntfs_words.specs.Cp.{cp_app, cp_asked, cp_request, cp_target};
 ghost use Rattle.ntfs_words.specs.Line.{Reads};
 
@@ -8,6 +9,7 @@ use crate::line::{Line, read_line};
 use crate::part::{Part, command_of};
 use crate::request::{Request, Target, WordsFault};
 use crate::text::{Text, text_in};
+use crate::tool::Tool;
 use crate::values::{kind_in, number_word, same_name};
 use clap::Command;
 use std::alloc::{AllocError, Global};
@@ -15,7 +17,8 @@ use std::alloc::{AllocError, Global};
 /// `ntfscp [-i|--inode] [-a|--attribute TYPE] [-N|--attr-name NAME] [-n|--no-action] IMAGE SOURCE DEST`
 #[tactic(auto, using(crate::proofs::SimpleLemmas::cp_is_simple), unfolding(crate::specs::Cp::cp_asked))]
 pub(crate) fn read_cp(alloc: Global, words: &[String]) -> Result<Request, WordsFault>
-    ensures { Reads (cp_asked (map string_bytes words.now)) result }
+    ensures reads { Reads (cp_asked (map string_bytes words.now)) result }
+    ensures request { IfOk result (IsOf Tool.Cp) }
 {
     let line = read_line(cp_command(alloc)?, words)?;
     cp_request(alloc, &line)
@@ -54,7 +57,8 @@ fn cp_command<'a>(alloc: Global) -> Result<Command<'a>, AllocError>
 
 #[tactic(auto, unfolding(crate::specs::Cp::cp_request))]
 fn cp_request(alloc: Global, line: &Line) -> Result<Request, WordsFault>
-    ensures { Reads (cp_request line.now) result }
+    ensures reads { Reads (cp_request line.now) result }
+    ensures request { IfOk result (IsOf Tool.Cp) }
 {
     let image = line.word("IMAGE")?;
     let source = line.word("SOURCE")?;

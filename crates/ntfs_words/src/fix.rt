@@ -1,6 +1,7 @@
 //! The words of ntfsfix.
 ghost use Rattle.std.specs.Prelude.{◌≡◌, IfOk, map, string_bytes};
 ghost use Rattle.clap.specs.Words.{app_of};
+ghost use Rattle.ntfs_words.specs.Answers.{IsOf};
 ghost use Rattle.ntfs_words.specs.Fix.{fix_app, fix_asked, fix_request};
 ghost use Rattle.ntfs_words.specs.Line.{Reads};
 
@@ -8,6 +9,7 @@ use crate::line::{Line, read_line};
 use crate::part::{Part, command_of};
 use crate::request::{Request, WordsFault};
 use crate::text::Text;
+use crate::tool::Tool;
 use crate::values::combination;
 use clap::Command;
 use std::alloc::{AllocError, Global};
@@ -15,7 +17,8 @@ use std::alloc::{AllocError, Global};
 /// `ntfsfix [-n|--no-action] [-d|--clear-dirty] [-b|--clear-bad-sectors] [--rebuild] IMAGE`
 #[tactic(auto, using(crate::proofs::SimpleLemmas::fix_is_simple), unfolding(crate::specs::Fix::fix_asked))]
 pub(crate) fn read_fix(alloc: Global, words: &[String]) -> Result<Request, WordsFault>
-    ensures { Reads (fix_asked (map string_bytes words.now)) result }
+    ensures reads { Reads (fix_asked (map string_bytes words.now)) result }
+    ensures request { IfOk result (IsOf Tool.Fix) }
 {
     let line = read_line(fix_command(alloc)?, words)?;
     fix_request(alloc, &line)
@@ -49,7 +52,8 @@ fn fix_command<'a>(alloc: Global) -> Result<Command<'a>, AllocError>
 
 #[tactic(auto, unfolding(crate::specs::Fix::fix_request))]
 fn fix_request(alloc: Global, line: &Line) -> Result<Request, WordsFault>
-    ensures { Reads (fix_request line.now) result }
+    ensures reads { Reads (fix_request line.now) result }
+    ensures request { IfOk result (IsOf Tool.Fix) }
 {
     let image = line.word("IMAGE")?;
     let no_action = line.is_on("no-action");

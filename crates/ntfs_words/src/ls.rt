@@ -1,6 +1,7 @@
 //! The words of ntfsls.
 ghost use Rattle.std.specs.Prelude.{◌≡◌, IfOk, map, string_bytes};
 ghost use Rattle.clap.specs.Words.{app_of};
+ghost use Rattle.ntfs_words.specs.Answers.{IsOf};
 ghost use Rattle.ntfs_words.specs.Ls.{ls_app, ls_asked, ls_request};
 ghost use Rattle.ntfs_words.specs.Line.{Reads};
 
@@ -8,13 +9,15 @@ use crate::line::{Line, read_line};
 use crate::part::{Part, command_of};
 use crate::request::{Request, WordsFault};
 use crate::text::{Text, text_in};
+use crate::tool::Tool;
 use clap::Command;
 use std::alloc::{AllocError, Global};
 
 /// `ntfsls [-a|--all] [-i|--inode] [-F|--classify] [-R|--recursive] [-s|--system] [-x|--dos] [-p|--path PATH] IMAGE`
 #[tactic(auto, using(crate::proofs::SimpleLemmas::ls_is_simple), unfolding(crate::specs::Ls::ls_asked))]
 pub(crate) fn read_ls(alloc: Global, words: &[String]) -> Result<Request, WordsFault>
-    ensures { Reads (ls_asked (map string_bytes words.now)) result }
+    ensures reads { Reads (ls_asked (map string_bytes words.now)) result }
+    ensures request { IfOk result (IsOf Tool.Ls) }
 {
     let line = read_line(ls_command(alloc)?, words)?;
     ls_request(alloc, &line)
@@ -63,7 +66,8 @@ fn ls_command<'a>(alloc: Global) -> Result<Command<'a>, AllocError>
 
 #[tactic(auto, unfolding(crate::specs::Ls::ls_request))]
 fn ls_request(alloc: Global, line: &Line) -> Result<Request, WordsFault>
-    ensures { Reads (ls_request line.now) result }
+    ensures reads { Reads (ls_request line.now) result }
+    ensures request { IfOk result (IsOf Tool.Ls) }
 {
     let image = line.word("IMAGE")?;
     Ok(Request::Ls {

@@ -1,6 +1,7 @@
 //! The words of ntfsresize.
 ghost use Rattle.std.specs.Prelude.{◌≡◌, IfOk, map, string_bytes};
 ghost use Rattle.clap.specs.Words.{app_of};
+ghost use Rattle.ntfs_words.specs.Answers.{IsOf};
 ghost use Rattle.ntfs_words.specs.Resize.{resize_app, resize_asked, resize_request};
 ghost use Rattle.ntfs_words.specs.Line.{Reads};
 
@@ -8,6 +9,7 @@ use crate::line::{Line, read_line};
 use crate::part::{Part, command_of};
 use crate::request::{Request, WordsFault};
 use crate::text::Text;
+use crate::tool::Tool;
 use crate::values::{combination, size_in};
 use clap::Command;
 use std::alloc::{AllocError, Global};
@@ -15,7 +17,8 @@ use std::alloc::{AllocError, Global};
 /// `ntfsresize [-i|--info] [-s|--size SIZE] [-n|--no-action] [-f|--force] IMAGE`
 #[tactic(auto, using(crate::proofs::SimpleLemmas::resize_is_simple), unfolding(crate::specs::Resize::resize_asked))]
 pub(crate) fn read_resize(alloc: Global, words: &[String]) -> Result<Request, WordsFault>
-    ensures { Reads (resize_asked (map string_bytes words.now)) result }
+    ensures reads { Reads (resize_asked (map string_bytes words.now)) result }
+    ensures request { IfOk result (IsOf Tool.Resize) }
 {
     let line = read_line(resize_command(alloc)?, words)?;
     resize_request(alloc, &line)
@@ -52,7 +55,8 @@ fn resize_command<'a>(alloc: Global) -> Result<Command<'a>, AllocError>
 
 #[tactic(auto, unfolding(crate::specs::Resize::resize_request))]
 fn resize_request(alloc: Global, line: &Line) -> Result<Request, WordsFault>
-    ensures { Reads (resize_request line.now) result }
+    ensures reads { Reads (resize_request line.now) result }
+    ensures request { IfOk result (IsOf Tool.Resize) }
 {
     let image = line.word("IMAGE")?;
     let info = line.is_on("info");

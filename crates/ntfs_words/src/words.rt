@@ -1,5 +1,7 @@
 //! The words of a command line.
-ghost use Rattle.std.specs.Prelude.{map, string_bytes};
+ghost use Rattle.std.specs.Prelude.{◌≡◌, IfOk, Some, map, string_bytes};
+ghost use Rattle.ntfs_words.specs.Answers.{HasRanges, tool_for};
+ghost use Rattle.ntfs_words.specs.Tool.{tool_of};
 ghost use Rattle.ntfs_words.specs.Line.{Reads};
 ghost use Rattle.ntfs_words.specs.Words.{asked};
 
@@ -20,7 +22,9 @@ use std::alloc::Global;
 
 /// Reads the words of a command line, without the program's own name: what they ask for, or why they are refused.
 pub fn read_words(alloc: Global, words: &[String]) -> Result<Request, WordsFault>
-    ensures { Reads (asked (map string_bytes words.now)) result }
+    ensures reads { Reads (asked (map string_bytes words.now)) result }
+    ensures tool { IfOk result (λ request. tool_of (map string_bytes words.now) ≡ Some (tool_for request)) }
+    ensures ranges { IfOk result HasRanges }
 {
     match tool_of(words) {
         None => Err(WordsFault::Usage {
