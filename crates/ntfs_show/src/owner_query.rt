@@ -227,9 +227,10 @@ fn put_summary<K: Sink>(summary: &Summary, out: &mut K) -> Result<(), ShowFault>
 
 /// Prints what is asked about the owners of the clusters of the volume whose table is kept.
 ///
-/// The volume is surveyed first: nothing is put where a record isn't right, or mapping pairs aren't. For a summary there
-/// are four lines, `clusters: `, `owned: `, `bad: ` and `free: `, with numbers. A cluster is owned that an attribute of
-/// a record in use names, and bad where a $DATA attribute `$Bad` of record 8 itself names it; each is counted once.
+/// The volume is surveyed first: nothing is put where a record isn't right, or mapping pairs aren't. For a summary
+/// there are four lines, `clusters: `, `owned: `, `bad: ` and `free: `, with numbers. A cluster is owned that an
+/// attribute of a record in use names, and bad where a $DATA attribute `$Bad` of record 8 itself names it; each is
+/// counted once.
 /// After a fault or want of memory a prefix of the lines was put.
 pub fn show_owners<G: Image, K: Sink>(
     alloc: Global,
