@@ -1,5 +1,5 @@
 -- What ntfsinfo makes of words of any kind.
-use Rattle.std.proofs.Common.{◌≡◌, ◌==◌, Bool, true, false, List, [], ◌∷◌, ◌++◌, refl, codes, Ok, Err, Option, Some, None, ℕ, ap, ◌∙◌}
+use Rattle.std.proofs.Common.{◌≡◌, ◌==◌, Bool, true, false, List, [], ◌∷◌, ◌++◌, refl, codes, Ok, Err, Option, Some, None, ℕ}
 use Rattle.clap.specs.Words.{Kinds, Text, fault_of, matches_of}
 use Rattle.clap.specs.declared.error.kind.ErrorKind.{ErrorKind}
 use Rattle.ntfs_base.specs.declared.refusal.UsageKind.TheVariants as usage
@@ -8,7 +8,7 @@ use Rattle.clap.proofs.OnLiterals.{clap_on_literals}
 use Rattle.ntfs_words.proofs.LineLemmas.{refused, taken}
 use Rattle.ntfs_words.proofs.SpellingLemmas.{equals_first, first_differs, hyphen_first, nothing_spells}
 use Rattle.ntfs_words.specs.Info.{info_app, info_asked, info_request}
-use Rattle.ntfs_words.specs.Line.{begins_with_hyphen, is_on, line_of, text_of, word_of}
+use Rattle.ntfs_words.specs.Line.{begins_with_hyphen, is_on, text_of, word_of}
 use Rattle.ntfs_words.specs.Numbers.{number_of}
 use Rattle.ntfs_words.specs.Values.{number_in}
 use Rattle.ntfs_words.specs.declared.request.Request.TheVariants as request
