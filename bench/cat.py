@@ -4,7 +4,8 @@ stock `ntfscat` in the same run, with the system calls (where strace is installe
 
 For clusters of 512, 4,096 and 65,536 bytes the stock tools make a volume with the file, which has a run or two; the same volume is
 then measured with the stream scattered into 10,000 runs (4,096 of one cluster each, where there are no more), whose mapping pairs
-lie in extension records that an attribute list in a cluster of its own names. It needs Debian's package ntfs-3g. It builds the program
+lie in extension records that an attribute list in a cluster of its own names. What is read is a copy of the volume, so that it
+stands in the system's cache as the file of `cat` does, and not in the small pieces in which it was written. It needs Debian's package ntfs-3g. It builds the program
 with `rt run` in crates/ntfsprogs, works in a temporary folder (name another one, on the disk that is to be measured, as the
 only argument), and takes the least time of each command over its rounds. The repository is only read, but for the built program.
 """
@@ -216,7 +217,7 @@ def main():
     program = built_program()
     with tempfile.TemporaryDirectory(dir=sys.argv[1] if len(sys.argv) > 1 else None) as folder:
         folder = pathlib.Path(folder)
-        content, out = folder / "content", folder / "out"
+        content, image, out = folder / "content", folder / "image", folder / "out"
         with open(content, "wb") as file:
             for number in range(STREAM // 4096):
                 file.write(number.to_bytes(8, "little") * 512)
@@ -225,12 +226,14 @@ def main():
             number = numbers[content.name]
             tools = {
                 "cat": ["cat", content],
-                "ntfscat": [program, "ntfscat", "-i", number, volume],
-                "stock ntfscat": ["ntfscat", "-f", "-i", number, volume],
+                "ntfscat": [program, "ntfscat", "-i", number, image],
+                "stock ntfscat": ["ntfscat", "-f", "-i", number, image],
             }
+            shutil.copyfile(volume, image)
             print(f"clusters of {cluster} bytes, as the stock tools wrote the file")
             measure(tools, content, out)
             runs = scatter(volume, content, cluster, number, [numbers[f"spare{at}"] for at in range(SPARE)])
+            shutil.copyfile(volume, image)
             print(f"clusters of {cluster} bytes, {runs} runs")
             measure(tools, content, out)
             volume.unlink()
