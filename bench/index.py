@@ -6,9 +6,7 @@ It writes a program over the crates of this repository into a temporary folder, 
 least time of each step over its rounds. The repository is only read.
 """
 
-import shutil
-
-from measure import peak, program_over
+from measure import program_over, report
 
 CRATES = ("ntfs_base", "ntfs_boot", "ntfs_fixup", "ntfs_index")
 NAME = "bench_index"
@@ -261,22 +259,12 @@ def proof_of(function, invariant):
     )
 
 
-def report(program, lines):
-    for inner in sorted({line[0] for line in lines}):
-        rounds = [line for line in lines if line[0] == inner]
-        fetched, walked = (min(line[i] for line in rounds) for i in (1, 2))
-        print(f"{inner * 1404 - 1:,} names, least of {len(rounds)} rounds")
-        print(f"fetched   {fetched:8} us")
-        print(f"walked    {walked:8} us, {walked / max(fetched, 1):.2f} of fetching")
-    if shutil.which("/usr/bin/time"):
-        # with one word the program walks, with three it only fetches
-        print(f"memory    {peak(program, 1) - peak(program, 3):8} KiB more than fetching")
-
-
 def main():
     proofs = {function: proof_of(function, invariant) for function, invariant in INVARIANTS.items()}
     with program_over(CRATES, NAME, PROGRAM, ("ntfs_boot", "ntfs_index"), proofs) as (program, rounds):
-        report(program, rounds)
+        for inner in sorted({line[0] for line in rounds}):
+            times = [line[1:] for line in rounds if line[0] == inner]
+            report(program, f"{inner * 1404 - 1:,} names", times, ("fetched", "fetching"), "walked")
 
 
 if __name__ == "__main__":

@@ -56,6 +56,17 @@ def peak(program, words):
     return int(done.stderr.split()[-1])
 
 
+def report(program, heading, rounds, plain, work):
+    """Prints the least times of two steps, the second as a ratio to the first, and how much more memory the program takes with one
+    word, where it does both, than with three, where it does the first alone. A step is its word in the past and its noun."""
+    first, second = (min(line[i] for line in rounds) for i in (0, 1))
+    print(f"{heading}, least of {len(rounds)} rounds")
+    print(f"{plain[0]:9} {first:8} us")
+    print(f"{work:9} {second:8} us, {second / max(first, 1):.2f} of {plain[1]}")
+    if shutil.which("/usr/bin/time"):
+        print(f"memory    {peak(program, 1) - peak(program, 3):8} KiB more than {plain[1]}")
+
+
 def built_program():
     """The built program of this repository."""
     subprocess.run(["rt", "run", "--", "ntfsinfo", "-m", "data/tiny.img"], cwd=CRATE, check=True, capture_output=True)

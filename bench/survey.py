@@ -6,9 +6,7 @@ It writes a program over the crates of this repository into a temporary folder, 
 least time of each step over its rounds. The repository is only read.
 """
 
-import shutil
-
-from measure import peak, program_over
+from measure import program_over, report
 
 CRATES = ("ntfs_base", "ntfs_boot", "ntfs_fixup", "ntfs_runs", "ntfs_record", "ntfs_attrlist", "ntfs_volume", "ntfs_survey")
 NAME = "bench_survey"
@@ -141,19 +139,9 @@ fn main(rt: HostRuntime) -> io::Result<()> {
 """
 
 
-def report(program, rounds):
-    copying, surveying = (min(line[i] for line in rounds) for i in (0, 1))
-    print(f"100,000 records, least of {len(rounds)} rounds")
-    print(f"copied    {copying:8} us")
-    print(f"surveyed  {surveying:8} us, {surveying / max(copying, 1):.2f} of copying")
-    if shutil.which("/usr/bin/time"):
-        # with one word the program surveys, with three it only copies
-        print(f"memory    {peak(program, 1) - peak(program, 3):8} KiB more than copying")
-
-
 def main():
     with program_over(CRATES, NAME, PROGRAM, ("ntfs_base", "ntfs_volume", "ntfs_survey")) as (program, rounds):
-        report(program, rounds)
+        report(program, "100,000 records", rounds, ("copied", "copying"), "surveyed")
 
 
 if __name__ == "__main__":
