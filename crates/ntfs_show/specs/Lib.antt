@@ -5,3 +5,4 @@ pub mod Info
 pub mod Printing
 pub mod Cat
 pub mod Owners
+pub mod Pending

@@ -5,6 +5,7 @@ mod cover;
 mod fault;
 mod info;
 mod owner_query;
+mod pending;
 mod streams;
 
 pub use fault::ShowFault;
