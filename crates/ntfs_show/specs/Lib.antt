@@ -6,3 +6,4 @@ pub mod Label
 pub mod Printing
 pub mod Cat
 pub mod Owners
+pub mod Pending

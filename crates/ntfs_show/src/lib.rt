@@ -6,6 +6,7 @@ mod fault;
 mod info;
 mod label;
 mod owner_query;
+mod pending;
 mod streams;
 
 pub use fault::ShowFault;
