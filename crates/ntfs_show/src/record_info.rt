@@ -339,6 +339,26 @@ fn read_block<G: Image>(
     }
 }
 
+/// Prints the record of a number, which is read into `block`.
+fn show_by_block<G: Image, K: Sink>(
+    alloc: Global,
+    image: &mut G,
+    table: &Table,
+    number: u64,
+    block: &mut [u8],
+    out: &mut K,
+) -> Result<(), ShowFault>
+    requires held { HasClusters (G.seen image.old).size table.now }
+    requires block { length block.old ≡ table.now.geometry.record_size }
+    ensures told { IfTold G.Image image.old (λ content. Prints show_origin (record_printing table.now content number)
+        (K.seen out.old) result (K.seen out.new)) }
+    ensures listed { IfErr result (IsRecordRefusal number) }
+    ensures copies { Copies G.Image K.Sink show_origin image.old image.new out.old out.new result }
+{
+    read_block(image, table, number, block)?;
+    put_block(alloc, block, table.geometry().clusters, number, out)
+}
+
 /// Prints the record of a number of the volume whose table is kept: its head in six lines, and then a line for each of
 /// its attributes, in their order.
 ///
@@ -362,8 +382,7 @@ pub fn show_record<G: Image, K: Sink>(
     ensures copies { Copies G.Image K.Sink show_origin image.old image.new out.old out.new result }
 {
     let mut block = zeros(alloc, table.geometry().record_size as usize)?;
-    read_block(image, table, number, &mut block)?;
-    put_block(alloc, &block, table.geometry().clusters, number, out)
+    show_by_block(alloc, image, table, number, &mut block, out)
 }
 
 /// Prints the record of a number of a volume, as `show_record` does.
