@@ -1,7 +1,7 @@
 -- What is printed of one file record: its head in six lines, and a line for each of its attributes (the Linux-NTFS
 -- documentation, "File Record", "Attribute Header" and "Data Runs", on what these are). The texts, their order, the
 -- refusals and the words are ours.
-use Rattle.std.specs.Prelude.{◌≡◌, ◌⊎◌, ◌-◌, ◌==◌, ◌||◌, ◌++◌, ℕ, Bool, List, [], length, map, codes, Option, Some, None, Result, Ok, Err, IfErr, if◌then◌else◌}
+use Rattle.std.specs.Prelude.{◌≡◌, ◌⊎◌, ◌-◌, ◌==◌, ◌||◌, ◌++◌, ℕ, Bool, List, [], length, map, codes, Some, None, Result, Ok, Err, IfErr, if◌then◌else◌}
 use Rattle.std.specs.Fmt.{decimal}
 use Rattle.std.specs.List.{flat_map, list_all, take_while}
 use Rattle.ntfs_base.specs.Bytes.{cluster_at}
