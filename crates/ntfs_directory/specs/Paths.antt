@@ -2,7 +2,7 @@
 -- is the root, record 5. A part is looked up in the directory that the parts before it name: its first entry with the
 -- same units, else the first that has the same name under $UpCase (the Linux-NTFS documentation, "Directory" and
 -- "$UpCase"; how a path is read and the refusals are ours).
-use Rattle.std.specs.Prelude.{◌+◌, ◌==◌, ℕ, suc, Bool, true, false, List, [], ◌∷◌, filter, find, length, Option, Some, None, Result, Ok, Err, if◌then◌else◌}
+use Rattle.std.specs.Prelude.{◌+◌, ◌==◌, ℕ, Bool, true, false, List, [], ◌∷◌, filter, find, length, Option, Some, None, Result, Ok, Err, if◌then◌else◌}
 use Rattle.std.specs.Option.{ok_or, option_map}
 use Rattle.std.specs.Str.{bytes_eq}
 use Rattle.ntfs_base.specs.Frames.{Origin, content, reading, memory, must, refused_as, ◌>>=◌}
@@ -112,11 +112,16 @@ record_named g map image d (Some reference) = do
   found ← entry_record g map image d reference
   Ok (Some found)
 
+-- the reference of a name in directory d, where it has one
+unfoldable pub reference_in : Geometry → Map → List ℕ → List ℕ → ℕ → List ℕ → Result (Option ℕ) VolumeFault
+reference_in g map image upper d name = do
+  walk ← begun_walk g map image d
+  named_in upper name walk
+
 -- the record of a name in directory d, where it has one
 unfoldable pub found_in : Geometry → Map → List ℕ → List ℕ → ℕ → List ℕ → Result (Option EntryRecord) VolumeFault
 found_in g map image upper d name = do
-  walk ← begun_walk g map image d
-  reference ← named_in upper name walk
+  reference ← reference_in g map image upper d name
   record_named g map image d reference
 
 -- the record of part k, which is asked of this record
@@ -146,19 +151,22 @@ root_record g map image = do
   base ← refused_as (path_fault 0) (base_record g map image root_number)
   Ok (record { number = root_number; is_directory = base.is_directory })
 
--- the record of these parts: where there are any, $UpCase is read first
-unfoldable pub record_of_parts : Geometry → Map → List ℕ → List (List ℕ) → Result EntryRecord PathFault
-record_of_parts g map image [] = root_record g map image
-record_of_parts g map image (part ∷ parts) = do
+-- the record of parts that there are: $UpCase is read first
+unfoldable pub record_below_root : Geometry → Map → List ℕ → List (List ℕ) → Result EntryRecord PathFault
+record_below_root g map image parts = do
   upper ← refused_as (path_fault 0) (up_case_of g map image)
   root ← root_record g map image
-  parts_from g map image upper 0 root (part ∷ parts)
+  parts_from g map image upper 0 root parts
+
+abbrev pub record_of_parts : Geometry → Map → List ℕ → List (List ℕ) → Result EntryRecord PathFault
+record_of_parts g map image [] = root_record g map image
+record_of_parts g map image (part ∷ parts) = record_below_root g map image (part ∷ parts)
 
 -- the number of the record that a path names; that of the root needs no reading
 abbrev pub number_of_parts : Geometry → Map → List ℕ → List (List ℕ) → Result ℕ PathFault
 number_of_parts g map image [] = Ok root_number
 number_of_parts g map image (part ∷ parts) = do
-  found ← record_of_parts g map image (part ∷ parts)
+  found ← record_below_root g map image (part ∷ parts)
   Ok found.number
 
 unfoldable pub path_of : Geometry → Map → List ℕ → List ℕ → Result ℕ PathFault

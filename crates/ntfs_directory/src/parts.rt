@@ -23,7 +23,6 @@ pub(crate) fn first_part(path: &str) -> Option<(&str, &str)>
     }
 }
 
-
 /// The only part of a path without a slash, and nothing behind it.
 fn last_part(path: &str) -> Option<(&str, &str)>
     requires slashless { (i : ℕ) → i < length path.now → slice_index path.now i ≢ 47 }

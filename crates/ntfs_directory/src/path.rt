@@ -110,29 +110,72 @@ fn read_root<G: Image>(
     }
 }
 
-/// The record of a path. Where it has a part, $UpCase is read first.
+/// The record of a path that has a part.
+fn read_parts<G: Image>(
+    alloc: Global,
+    image: &mut G,
+    table: &Table,
+    path: &str,
+    block: &mut [u8],
+) -> Result<EntryRecord, PathFault>
+    requires held { HasClusters (G.seen image.old).size table.now }
+    requires block { length block.old ≡ table.now.geometry.record_size }
+    ensures gives { IfTold G.Image image.old (λ content. Gives spec.path_origin (λ found. found)
+        (spec.record_below_root table.now.geometry table.now.map content (spec.path_parts path.now)) result) }
+    ensures listed { IfErr result spec.IsPathRefusal }
+    ensures reads { OnlyReads G.Image spec.path_origin image.old image.new result }
+{
+    match read_up_case(alloc, image, table) {
+        Err(fault) => Err(path_fault(0, fault)),
+        Ok(upper) => match read_root(image, table, block) {
+            Err(fault) => Err(fault),
+            Ok(root) => enter_parts(alloc, image, table, &upper, root, path, block),
+        },
+    }
+}
+
+/// The record of a path.
 fn read_path<G: Image>(
     alloc: Global,
     image: &mut G,
     table: &Table,
     path: &str,
+    block: &mut [u8],
 ) -> Result<EntryRecord, PathFault>
     requires held { HasClusters (G.seen image.old).size table.now }
+    requires block { length block.old ≡ table.now.geometry.record_size }
     ensures gives { IfTold G.Image image.old (λ content. Gives spec.path_origin (λ found. found)
         (spec.record_of_parts table.now.geometry table.now.map content (spec.path_parts path.now)) result) }
     ensures listed { IfErr result spec.IsPathRefusal }
     ensures reads { OnlyReads G.Image spec.path_origin image.old image.new result }
 {
-    let mut block = zeros(alloc, table.geometry().record_size as usize)?;
-    if first_part(path).is_none() {
-        return read_root(image, table, &mut block);
+    match first_part(path) {
+        None => read_root(image, table, block),
+        Some(_) => read_parts(alloc, image, table, path, block),
     }
-    match read_up_case(alloc, image, table) {
-        Err(fault) => Err(path_fault(0, fault)),
-        Ok(upper) => {
-            let root = read_root(image, table, &mut block)?;
-            enter_parts(alloc, image, table, &upper, root, path, &mut block)
-        }
+}
+
+/// The number of the record that a path names, through a buffer of one record.
+fn number_of<G: Image>(
+    alloc: Global,
+    image: &mut G,
+    table: &Table,
+    path: &str,
+    block: &mut [u8],
+) -> Result<u64, PathFault>
+    requires held { HasClusters (G.seen image.old).size table.now }
+    requires block { length block.old ≡ table.now.geometry.record_size }
+    ensures gives { IfTold G.Image image.old (λ content. Gives spec.path_origin (λ number. number)
+        (spec.path_of table.now.geometry table.now.map content path.now) result) }
+    ensures listed { IfErr result spec.IsPathRefusal }
+    ensures reads { OnlyReads G.Image spec.path_origin image.old image.new result }
+{
+    match first_part(path) {
+        None => Ok(ROOT),
+        Some(_) => match read_parts(alloc, image, table, path, block) {
+            Err(fault) => Err(fault),
+            Ok(found) => Ok(found.number),
+        },
     }
 }
 
@@ -152,11 +195,8 @@ pub fn resolve_path<G: Image>(
     ensures listed { IfErr result spec.IsPathRefusal }
     ensures reads { OnlyReads G.Image spec.path_origin image.old image.new result }
 {
-    if first_part(path).is_none() {
-        return Ok(ROOT);
-    }
-    let found = read_path(alloc, image, table, path)?;
-    Ok(found.number)
+    let mut block = zeros(alloc, table.geometry().record_size as usize)?;
+    number_of(alloc, image, table, path, &mut block)
 }
 
 /// How many parts a path has.
@@ -170,6 +210,32 @@ fn count_parts(path: &str) -> u64
         count += 1;
     }
     count
+}
+
+/// The number of the directory that a path names, through a buffer of one record.
+fn directory_number<G: Image>(
+    alloc: Global,
+    image: &mut G,
+    table: &Table,
+    path: &str,
+    block: &mut [u8],
+) -> Result<u64, PathFault>
+    requires held { HasClusters (G.seen image.old).size table.now }
+    requires block { length block.old ≡ table.now.geometry.record_size }
+    ensures gives { IfTold G.Image image.old (λ content. Gives spec.path_origin (λ number. number)
+        (spec.directory_at table.now.geometry table.now.map content path.now) result) }
+    ensures listed { IfErr result spec.IsPathRefusal }
+    ensures reads { OnlyReads G.Image spec.path_origin image.old image.new result }
+{
+    match read_path(alloc, image, table, path, block) {
+        Err(fault) => Err(fault),
+        Ok(found) => {
+            if !found.is_directory {
+                return Err(no_part(count_parts(path)));
+            }
+            Ok(found.number)
+        }
+    }
 }
 
 /// The number of the directory that a path names, as `resolve_path` does. A path that ends at no directory lacks the
@@ -186,9 +252,6 @@ pub fn directory_at<G: Image>(
     ensures listed { IfErr result spec.IsPathRefusal }
     ensures reads { OnlyReads G.Image spec.path_origin image.old image.new result }
 {
-    let found = read_path(alloc, image, table, path)?;
-    if !found.is_directory {
-        return Err(no_part(count_parts(path)));
-    }
-    Ok(found.number)
+    let mut block = zeros(alloc, table.geometry().record_size as usize)?;
+    directory_number(alloc, image, table, path, &mut block)
 }

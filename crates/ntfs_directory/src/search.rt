@@ -51,18 +51,31 @@ fn like_entry(like: Option<u64>, is_like: bool, reference: u64) -> Option<u64>
 {
     match like {
         Some(first) => Some(first),
-        None => {
-            if is_like {
-                Some(reference)
-            } else {
-                None
-            }
-        }
+        None => { if is_like { Some(reference) } else { None } }
+    }
+}
+
+/// The reference of a name in the directory of a number, where it has one.
+fn find_reference<G: Image>(
+    alloc: Global,
+    image: &mut G,
+    table: &Table,
+    upper: &UpCase,
+    number: u64,
+    name: &[u8],
+) -> Result<Option<u64>, VolumeFault>
+    requires held { HasClusters (G.seen image.old).size table.now }
+    ensures gives { IfTold G.Image image.old (λ content. Gives volume_origin (λ found. found)
+        (spec.reference_in table.now.geometry table.now.map content upper.now number name.now) result) }
+    ensures reads { OnlyReads G.Image volume_origin image.old image.new result }
+{
+    match open_directory(alloc, image, table, number) {
+        Err(fault) => Err(fault),
+        Ok(mut directory) => find_name(image, table, &mut directory, upper, name),
     }
 }
 
 /// The record of a name in the directory of a number, where it has one, through a buffer of one record.
-#[tactic(auto, unfolding(crate::specs::Paths::found_in))]
 pub(crate) fn find_in<G: Image>(
     alloc: Global,
     image: &mut G,
@@ -78,12 +91,12 @@ pub(crate) fn find_in<G: Image>(
         (spec.found_in table.now.geometry table.now.map content upper.now number name.now) result) }
     ensures reads { OnlyReads G.Image volume_origin image.old image.new result }
 {
-    let mut directory = open_directory(alloc, image, table, number)?;
-    match find_name(image, table, &mut directory, upper, name)? {
-        None => Ok(None),
-        Some(reference) => {
-            let found = read_entry(image, table, number, reference, block)?;
-            Ok(Some(found))
-        }
+    match find_reference(alloc, image, table, upper, number, name) {
+        Err(fault) => Err(fault),
+        Ok(None) => Ok(None),
+        Ok(Some(reference)) => match read_entry(image, table, number, reference, block) {
+            Err(fault) => Err(fault),
+            Ok(found) => Ok(Some(found)),
+        },
     }
 }
