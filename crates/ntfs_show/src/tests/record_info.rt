@@ -1,5 +1,7 @@
 //! What is printed of the records of the small volume.
 
+ghost use Rattle.std.specs.Prelude.{◌<◌};
+
 use super::{ONE, TWO, Told, begin, end, patch, record_at, resident, runs, volume};
 use crate::{ShowFault, info_record, show_record};
 use ntfs_base::{Image, Leaves, MemImage, MemSink, Missing, Rule, Sink};
