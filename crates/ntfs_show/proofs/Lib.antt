@@ -5,3 +5,7 @@ pub mod CoverLemmas
 pub mod SlotLemmas
 pub mod OwnersLemmas
 pub mod PendingLemmas
+pub mod HeldLemmas
+pub mod ScanLemmas
+pub mod LineLemmas
+pub mod FileLemmas

@@ -5,5 +5,7 @@ pub mod Info
 pub mod Label
 pub mod Printing
 pub mod Cat
+pub mod Held
+pub mod OwnerLines
 pub mod Owners
 pub mod Pending
