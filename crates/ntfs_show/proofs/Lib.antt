@@ -6,3 +6,7 @@ pub mod SlotLemmas
 pub mod OwnersLemmas
 pub mod PendingLemmas
 pub mod RecordInfoLemmas
+pub mod HeldLemmas
+pub mod ScanLemmas
+pub mod LineLemmas
+pub mod FileLemmas

@@ -3,11 +3,16 @@
 
 mod cover;
 mod fault;
+mod file_runs;
+mod held;
+mod holding;
 mod info;
 mod label;
+mod owner_lines;
 mod owner_query;
 mod pending;
 mod record_info;
+mod reread;
 mod streams;
 
 pub use fault::ShowFault;
