@@ -5,9 +5,9 @@ use Rattle.ntfs_base.specs.Frames.{IsSettled, must, refused_as, ◌>>=◌}
 use Rattle.ntfs_base.specs.Shelf.{Files, file_of}
 use Rattle.ntfs_base.specs.Sink.{SinkState, after_put}
 use Rattle.ntfs_base.specs.declared.refusal.Named.TheVariants as named
-use Rattle.ntfs_base.specs.declared.refusal.UsageKind.{UsageKind}
 use Rattle.ntfs_show.specs.Cat.{cat_outcome, gathered_stream}
 use Rattle.ntfs_show.specs.Fault.{gather_refusal, stream_refusal}
+use Rattle.ntfs_show.specs.Printing.{printing_of}
 use Rattle.ntfs_show.specs.declared.fault.ShowFault.{ShowFault}
 use Rattle.ntfs_show.specs.declared.fault.ShowFault.TheVariants as show
 use Rattle.ntfs_stream.specs.StreamBytes.{is_plain, stream_outcome}
@@ -17,8 +17,11 @@ use Rattle.ntfs_volume.specs.Opened.{Opened, opened_of}
 use Rattle.ntfs_volume.specs.Streams.{gather_of}
 use Rattle.ntfs_volume.specs.declared.fault.VolumeFault.{VolumeFault}
 use Rattle.ntfs_volume.specs.declared.fault.VolumeFault.TheVariants as volume
-use Rattle.ntfs_run.specs.Cat.{IsStreamOf, PutsStream, cat_bytes, record_bytes}
-use Rattle.ntfs_run.specs.Command.{Command, cat}
+use Rattle.ntfs_words.specs.declared.request.Request.{Request}
+use Rattle.ntfs_words.specs.declared.request.Request.TheVariants as request
+use Rattle.ntfs_words.specs.declared.request.Target.TheVariants as target
+use Rattle.ntfs_words.specs.declared.request.WordsFault.{WordsFault}
+use Rattle.ntfs_run.specs.Cat.{IsStreamOf, PutsStream, cat_bytes, record_bytes, stream_name}
 use Rattle.ntfs_run.specs.Outcome.{Does, show_status, shows, status_origin, volume_status}
 use Rattle.ntfs_run.specs.Reply.{PutsIfCat, outcome_for}
 use Rattle.ntfs_run.specs.declared.status.Status.{Status}
@@ -32,13 +35,14 @@ the_same : {E : Type 0} (r : Result (List ℕ) E) (a b : List ℕ) → r ≡ Ok 
 the_same r a b one other = cc
 
 -- what the outcome shows is the bytes of the stream
-stream_is_told : (image : List ℕ) (number : ℕ) (bytes : List ℕ) → record_bytes image number ≡ Ok bytes → IsStreamOf image number bytes
+stream_is_told : (image : List ℕ) (number kind : ℕ) (name bytes : List ℕ) → record_bytes image number kind name ≡ Ok bytes
+    → IsStreamOf image number kind name bytes
 unfolding record_bytes cat_outcome stream_outcome
-stream_is_told image number bytes is =
+stream_is_told image number kind name bytes is =
     let opened = bind_ok (refused_as volume_status (opened_of image)) _ bytes is in
     let volume = opened.0 in
-    let shown = refused_ok show_status (cat_outcome volume image number 0x80 []) bytes opened.2 in
-    let gathered = bind_ok (gathered_stream volume image number 0x80 []) _ bytes shown in
+    let shown = refused_ok show_status (cat_outcome volume image number kind name) bytes opened.2 in
+    let gathered = bind_ok (gathered_stream volume image number kind name) _ bytes shown in
     let found = gathered.0 in
     let told = refused_ok stream_refusal (stream_outcome volume.geometry image found.stream) bytes gathered.2 in
     let plain = bind_ok (must (is_plain found.stream.flags) (stream.NotPlain found.stream.flags)) _ bytes told in
@@ -46,7 +50,7 @@ stream_is_told image number bytes is =
       volume = volume;
       found = found;
       opened = refused_ok volume_status (opened_of image) volume opened.1;
-      gathered = refused_ok (gather_refusal number) (gather_of volume.geometry volume.map (cluster_at image volume.geometry.cluster) number 0x80 []) found gathered.1;
+      gathered = refused_ok (gather_refusal number) (gather_of volume.geometry volume.map (cluster_at image volume.geometry.cluster) number kind name) found gathered.1;
       plain = must_ok (is_plain found.stream.flags) (stream.NotPlain found.stream.flags) plain.0 plain.1;
       whole = the_same _ _ bytes refl plain.2;
     }
@@ -64,29 +68,29 @@ volume-origin volume.NoMemory = refl
 volume-origin volume.Absent = refl
 volume-origin volume.NoAttribute = refl
 
-pub record_refused : (image : List ℕ) (number : ℕ) (fault : VolumeFault) → (IsSettled (volume_origin fault) → opened_of image ≡ Err fault)
-    → IsSettled (status_origin (volume_status fault)) → record_bytes image number ≡ Err (volume_status fault)
+pub record_refused : (image : List ℕ) (number kind : ℕ) (name : List ℕ) (fault : VolumeFault) → (IsSettled (volume_origin fault) → opened_of image ≡ Err fault)
+    → IsSettled (status_origin (volume_status fault)) → record_bytes image number kind name ≡ Err (volume_status fault)
 unfolding record_bytes
-record_refused image number fault is settled =
-    ap (λ r. r >>= (λ volume. refused_as show_status (cat_outcome volume image number 0x80 [])))
+record_refused image number kind name fault is settled =
+    ap (λ r. r >>= (λ volume. refused_as show_status (cat_outcome volume image number kind name)))
     (gives_as volume_origin status_origin volume_status volume-origin (opened_of image) fault is settled)
 
-pub record_opened : (image : List ℕ) (number : ℕ) (v : Opened) → opened_of image ≡ Ok v
-    → record_bytes image number ≡ refused_as show_status (cat_outcome v image number 0x80 [])
+pub record_opened : (image : List ℕ) (number kind : ℕ) (name : List ℕ) (v : Opened) → opened_of image ≡ Ok v
+    → record_bytes image number kind name ≡ refused_as show_status (cat_outcome v image number kind name)
 unfolding record_bytes
-record_opened image number v is = rw is refl
+record_opened image number kind name v is = rw is refl
 
 -- ---- the image of a name
 
-pub cat_held : (name : List ℕ) (number : ℕ) (files : Files) (image : List ℕ) → ok_or (file_of files name) (status.Absent named.Image) ≡ Ok image
-    → cat_bytes name number files ≡ record_bytes image number
+pub cat_held : (file : List ℕ) (number kind : ℕ) (name : List ℕ) (files : Files) (image : List ℕ) → ok_or (file_of files file) (status.Absent named.Image) ≡ Ok image
+    → cat_bytes file number kind name files ≡ record_bytes image number kind name
 unfolding cat_bytes
-cat_held name number files image is = ap (λ r. r >>= (λ image. record_bytes image number)) is
+cat_held file number kind name files image is = ap (λ r. r >>= (λ image. record_bytes image number kind name)) is
 
-pub cat_absent : (name : List ℕ) (number : ℕ) (files : Files) (fault : Status) → ok_or (file_of files name) (status.Absent named.Image) ≡ Err fault
-    → cat_bytes name number files ≡ Err fault
+pub cat_absent : (file : List ℕ) (number kind : ℕ) (name : List ℕ) (files : Files) (fault : Status) → ok_or (file_of files file) (status.Absent named.Image) ≡ Err fault
+    → cat_bytes file number kind name files ≡ Err fault
 unfolding cat_bytes
-cat_absent name number files fault is = ap (λ r. r >>= (λ image. record_bytes image number)) is
+cat_absent file number kind name files fault is = ap (λ r. r >>= (λ image. record_bytes image number kind name)) is
 
 -- ---- where the work was done
 
@@ -118,45 +122,48 @@ done_opened : (opened : Result Opened VolumeFault) (f : Opened → Result (List 
 done_opened (Ok v) f is = done_shown (f v) is
 done_opened (Err fault) f is = done_volume fault cc
 
-done_record : (image : List ℕ) (number : ℕ) → record_bytes image number ≡ Err status.Done → ⊥
+done_record : (image : List ℕ) (number kind : ℕ) (name : List ℕ) → record_bytes image number kind name ≡ Err status.Done → ⊥
 unfolding record_bytes
-done_record image number is = done_opened (opened_of image) (λ v. cat_outcome v image number 0x80 []) is
+done_record image number kind name is = done_opened (opened_of image) (λ v. cat_outcome v image number kind name) is
 
-done_bytes : (o : Option (List ℕ)) (number : ℕ)
-    → (ok_or o (status.Absent named.Image) >>= (λ image. record_bytes image number)) ≡ Err status.Done → ⊥
-done_bytes (Some image) number is = done_record image number is
-done_bytes None number is = cc
+done_bytes : (o : Option (List ℕ)) (number kind : ℕ) (name : List ℕ)
+    → (ok_or o (status.Absent named.Image) >>= (λ image. record_bytes image number kind name)) ≡ Err status.Done → ⊥
+done_bytes (Some image) number kind name is = done_record image number kind name is
+done_bytes None number kind name is = cc
 
-no_refusal : (name : List ℕ) (number : ℕ) (files : Files) → cat_bytes name number files ≡ Err status.Done → ⊥
+no_refusal : (file : List ℕ) (number kind : ℕ) (name : List ℕ) (files : Files) → cat_bytes file number kind name files ≡ Err status.Done → ⊥
 unfolding cat_bytes
-no_refusal name number files is = done_bytes (file_of files name) number is
+no_refusal file number kind name files is = done_bytes (file_of files file) number kind name is
 
 -- the bytes are those of the stream
-stream_of : (name : List ℕ) (number : ℕ) (files : Files) (bytes : List ℕ) (before after : SinkState) → cat_bytes name number files ≡ Ok bytes
-    → after ≡ after_put bytes before → PutsStream name number files before after
+stream_of : (file : List ℕ) (number kind : ℕ) (name : List ℕ) (files : Files) (bytes : List ℕ) (before after : SinkState) → cat_bytes file number kind name files ≡ Ok bytes
+    → after ≡ after_put bytes before → PutsStream file number kind name files before after
 unfolding cat_bytes
-stream_of name number files bytes before after is put =
-    let held = bind_ok (ok_or (file_of files name) (status.Absent named.Image)) (λ image. record_bytes image number) bytes is in
+stream_of file number kind name files bytes before after is put =
+    let held = bind_ok (ok_or (file_of files file) (status.Absent named.Image)) (λ image. record_bytes image number kind name) bytes is in
     record {
       image = held.0;
       bytes = bytes;
-      held = given_some (file_of files name) (status.Absent named.Image) held.0 held.1;
-      stream = stream_is_told held.0 number bytes held.2;
+      held = given_some (file_of files file) (status.Absent named.Image) held.0 held.1;
+      stream = stream_is_told held.0 number kind name bytes held.2;
       put = put;
     }
 
-done_stream : (name : List ℕ) (number : ℕ) (files left : Files) (before after : SinkState) (r : Result (List ℕ) Status) → cat_bytes name number files ≡ r
-    → Does (shows files r) status.Done before after left → PutsStream name number files before after
-done_stream name number files left before after (Ok bytes) is does = stream_of name number files bytes before after is (does.output tt)
-done_stream name number files left before after (Err fault) is does = absurd (no_refusal name number files (is ∙ ap Err (sym (does.status tt))))
+done_stream : (file : List ℕ) (number kind : ℕ) (name : List ℕ) (files left : Files) (before after : SinkState) (r : Result (List ℕ) Status) → cat_bytes file number kind name files ≡ r
+    → Does (shows files (printing_of r)) status.Done before after left → PutsStream file number kind name files before after
+done_stream file number kind name files left before after (Ok bytes) is does = stream_of file number kind name files bytes before after is (does.output tt)
+done_stream file number kind name files left before after (Err fault) is does = absurd (no_refusal file number kind name files (is ∙ ap Err (sym (does.status tt))))
 
 -- ntfscat puts the stream, of whatever words it was told
-cat_stream : (name : List ℕ) (number : ℕ) (s : Status) (files left : Files) (before after : SinkState)
-    → Does (shows files (cat_bytes name number files)) s before after left → PutsIfCat (Ok (cat name number)) s files before after
-cat_stream name number status.Done files left before after does = done_stream name number files left before after (cat_bytes name number files) refl does
-cat_stream name number other files left before after does = tt
+cat_stream : (file : List ℕ) (number kind : ℕ) (name : Option (List ℕ)) (s : Status) (files left : Files) (before after : SinkState)
+    → Does (shows files (printing_of (cat_bytes file number kind (stream_name name) files))) s before after left
+    → PutsIfCat (Ok (request.Cat (target.Number number) kind name file)) s files before after
+cat_stream file number kind name status.Done files left before after does =
+    done_stream file number kind (stream_name name) files left before after (cat_bytes file number kind (stream_name name) files) refl does
+cat_stream file number kind name other files left before after does = tt
 
-pub puts_stream : (reading : Result Command UsageKind) (s : Status) (files left : Files) (before after : SinkState)
+pub puts_stream : (reading : Result Request WordsFault) (s : Status) (files left : Files) (before after : SinkState)
     → Does (outcome_for reading files) s before after left → PutsIfCat reading s files before after
-puts_stream (Ok (cat name number)) s files left before after does = cat_stream name number s files left before after does
+puts_stream (Ok (request.Cat (target.Number number) kind name file)) s files left before after does =
+    cat_stream file number kind name s files left before after does
 puts_stream other s files left before after does = tt

@@ -1,5 +1,4 @@
 pub mod MessageLemmas
-pub mod NumberLemmas
 pub mod RangeLemmas
 pub mod ToolLemmas
 pub mod MakeLemmas

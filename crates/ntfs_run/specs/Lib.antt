@@ -3,7 +3,6 @@ pub use Rattle.ntfs_base.specs.Shelf
 pub use Rattle.ntfs_base.specs.Source
 pub use Rattle.ntfs_base.specs.Sink
 pub use Rattle.ntfs_boot.specs.Geometry
-pub mod Numbers
 pub mod Code
 pub mod Outcome
 pub mod Info

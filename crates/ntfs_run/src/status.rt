@@ -3,6 +3,8 @@ use ntfs_boot::ImageFault;
 use ntfs_make::MakeFault;
 use ntfs_show::ShowFault;
 use ntfs_volume::VolumeFault;
+use ntfs_words::WordsFault;
+use std::alloc::AllocError;
 
 /// How a command ended.
 #[derive(Clone, Copy, Debug, PartialEq, Eq)]
@@ -80,6 +82,31 @@ impl Status {
             Status::NoMemory => 12,
             Status::CannotMend { .. } => 13,
         }
+    }
+}
+
+impl From<WordsFault> for Status {
+    ghost use Rattle.std.specs.Prelude.{◌≡◌};
+    ghost use Rattle.ntfs_run.specs.Outcome.{words_status};
+
+    ghost from_gives = { λ fault status. status ≡ words_status fault };
+
+    fn from(fault: WordsFault) -> Status {
+        match fault {
+            WordsFault::Usage { kind } => Status::Usage { kind },
+            WordsFault::NoMemory => Status::NoMemory,
+        }
+    }
+}
+
+impl From<AllocError> for Status {
+    ghost use Rattle.std.specs.Prelude.{◌≡◌};
+    ghost use Rattle.ntfs_run.specs.declared.status.Status.TheVariants.{NoMemory};
+
+    ghost from_gives = { λ _ status. status ≡ NoMemory };
+
+    fn from(_error: AllocError) -> Status {
+        Status::NoMemory
     }
 }
 
