@@ -80,7 +80,7 @@ def least(words, output="/dev/null", ready=lambda: None):
         ready()
         with open(output, "wb") as file:
             start = time.perf_counter()
-            subprocess.run([str(word) for word in words], stdout=file, check=True)
+            subprocess.run([str(word) for word in words], stdout=file, stderr=subprocess.DEVNULL, check=True)
             times.append(time.perf_counter() - start)
     return min(times)
 
@@ -137,9 +137,7 @@ def has_stock_tools():
 
 def make_stock(volume, cluster, size, content, names):
     """A volume of the stock tools of this size, with files of these names, each with the content of a file."""
-    with open(volume, "wb") as file:
-        file.truncate(size)
-    subprocess.run(["mkntfs", "-q", "-F", "-Q", "-s", "512", "-c", str(cluster), volume], **QUIET)
+    stock_volume(volume, cluster, size)
     for name in names:
         subprocess.run(["ntfscp", "-q", "-f", volume, content, name], **QUIET)
 
@@ -148,3 +146,45 @@ def stock_number(volume, name):
     """The number of the record of a file in the root of a volume, as the stock tools see it."""
     listed = subprocess.run(["ntfsls", "-f", "-i", volume], check=True, stdout=subprocess.PIPE, text=True).stdout
     return next(row.split()[0] for row in listed.splitlines() if row.split()[1:] == [name])
+
+
+@contextlib.contextmanager
+def mounted(volume):
+    """A folder in which the stock driver shows a volume. It needs ntfs-3g, and the right to mount."""
+    with tempfile.TemporaryDirectory() as folder:
+        subprocess.run(["ntfs-3g", volume, folder], **QUIET)
+        try:
+            yield pathlib.Path(folder)
+        finally:
+            subprocess.run(["umount", folder], check=True)
+
+
+def stock_volume(volume, cluster, size):
+    """An empty volume of the stock mkntfs."""
+    with open(volume, "wb") as file:
+        file.truncate(size)
+    subprocess.run(["mkntfs", "-q", "-F", "-Q", "-s", "512", "-c", str(cluster), volume], **QUIET)
+
+
+def compare(heading, ours, stock):
+    """Prints the least times of two commands, the first as a ratio to the second, and the peak memory of both. A command that
+    fails has no time."""
+    times = [timed(words) for words in (ours, stock)]
+    ratio = f"{times[0] / times[1]:.2f} of stock" if all(times) else "not compared"
+    peaks = [f"{peak_of(words)} KiB" if shutil.which("/usr/bin/time") else "-" for words in (ours, stock)]
+    shown = [f"{1000 * each:.1f} ms" if each else "refused" for each in times]
+    print(f"{heading:44} {shown[0]:>10} {peaks[0]:>11}   stock {shown[1]:>10} {peaks[1]:>11}   {ratio}", flush=True)
+
+
+def timed(words):
+    """The least time of a command, or nothing where it fails."""
+    try:
+        return least(words)
+    except subprocess.CalledProcessError:
+        return None
+
+
+def peak_of(words):
+    """The peak memory in KiB of a command."""
+    done = subprocess.run(["/usr/bin/time", "-f", "%M", *(str(word) for word in words)], stdout=subprocess.DEVNULL, stderr=subprocess.PIPE, text=True)
+    return int(done.stderr.split()[-1])
