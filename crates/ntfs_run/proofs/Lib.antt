@@ -1,5 +1,6 @@
 pub mod MessageLemmas
 pub mod RangeLemmas
+pub mod RequestLemmas
 pub mod ToolLemmas
 pub mod MakeLemmas
 pub mod InfoLemmas

@@ -1,8 +1,7 @@
 -- `ntfscat`: a stream of a record.
 use Rattle.std.specs.Prelude.{◌≡◌, ℕ, true, List, [], Option, Some, None, Result, Ok}
-use Rattle.std.specs.Option.{ok_or}
 use Rattle.ntfs_base.specs.Bytes.{cluster_at}
-use Rattle.ntfs_base.specs.Frames.{refused_as, ◌>>=◌}
+use Rattle.ntfs_base.specs.Frames.{refused_as}
 use Rattle.ntfs_base.specs.Shelf.{Files, file_of}
 use Rattle.ntfs_base.specs.Sink.{SinkState, after_put}
 use Rattle.ntfs_base.specs.declared.refusal.Named.TheVariants as named
@@ -11,7 +10,7 @@ use Rattle.ntfs_stream.specs.StreamBytes.{bytes_of_stream, filled_stream, is_pla
 use Rattle.ntfs_upcase.specs.Names.{name_bytes}
 use Rattle.ntfs_volume.specs.Opened.{Opened, opened_of}
 use Rattle.ntfs_volume.specs.Streams.{Gathered, gather_of}
-use Rattle.ntfs_run.specs.Outcome.{show_status, volume_status}
+use Rattle.ntfs_run.specs.Outcome.{show_status}
 use Rattle.ntfs_run.specs.declared.status.Status.{Status}
 use Rattle.ntfs_run.specs.declared.status.Status.TheVariants as status
 
@@ -20,17 +19,9 @@ abbrev pub stream_name : Option (List ℕ) → List ℕ
 stream_name None = []
 stream_name (Some text) = name_bytes text
 
--- the bytes of the stream of this type and name of a record of an image
-unfoldable pub record_bytes : List ℕ → ℕ → ℕ → List ℕ → Result (List ℕ) Status
-record_bytes image number kind name = do
-  volume ← refused_as volume_status (opened_of image)
-  refused_as show_status (cat_outcome volume image number kind name)
-
--- the bytes for the image of a name
-unfoldable pub cat_bytes : List ℕ → ℕ → ℕ → List ℕ → Files → Result (List ℕ) Status
-cat_bytes file number kind name files = do
-  image ← ok_or (file_of files file) (status.Absent named.Image)
-  record_bytes image number kind name
+-- the bytes of the stream of this type and name of a record of a volume, whose image has these bytes
+unfoldable pub cat_bytes : ℕ → ℕ → List ℕ → Opened → List ℕ → Result (List ℕ) Status
+cat_bytes number kind name volume image = refused_as show_status (cat_outcome volume image number kind name)
 
 -- the refusals of the tool, once its words are taken
 abbrev pub CatRefuses : Status → Type 0

@@ -8,6 +8,8 @@ pub mod Outcome
 pub mod Info
 pub mod Cat
 pub mod Cluster
+pub mod Shown
+pub mod Show
 pub mod Make
 pub mod Command
 pub mod Message

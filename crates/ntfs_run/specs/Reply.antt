@@ -7,50 +7,39 @@ use Rattle.ntfs_base.specs.Shelf.{Files}
 use Rattle.ntfs_base.specs.Sink.{SinkState, after_put}
 use Rattle.ntfs_base.specs.declared.fault.SinkFaults.{SinkFaults}
 use Rattle.ntfs_base.specs.declared.refusal.UsageKind.{UsageKind}
-use Rattle.ntfs_base.specs.declared.refusal.UsageKind.TheVariants as usage
+use Rattle.ntfs_base.specs.declared.refusal.Named.TheVariants as named
 use Rattle.ntfs_base.specs.declared.shelf.Shelf as shelf
 use Rattle.ntfs_base.specs.declared.sink.Sink as sink
 use Rattle.ntfs_base.specs.declared.source.Source as source
-use Rattle.ntfs_show.specs.Printing.{printing_of}
-use Rattle.ntfs_show.specs.declared.owner_query.OwnerQuery.TheVariants as owner_query
-use Rattle.ntfs_words.specs.Answers.{CanMisuse, tool_for}
+use Rattle.ntfs_words.specs.Answers.{CanMisuse}
 use Rattle.ntfs_words.specs.declared.request.Request.{Request}
 use Rattle.ntfs_words.specs.declared.request.Request.TheVariants as request
 use Rattle.ntfs_words.specs.declared.request.Target.TheVariants as target
 use Rattle.ntfs_words.specs.declared.request.WordsFault.{WordsFault}
 use Rattle.ntfs_words.specs.declared.request.WordsFault.TheVariants as words_fault
 use Rattle.ntfs_words.specs.declared.tool.Tool.{Tool}
-use Rattle.ntfs_words.specs.declared.tool.Tool.TheVariants.{Info, Cat, Cluster, Make}
-use Rattle.ntfs_run.specs.Cat.{CatRefuses, PutsStream, cat_bytes, stream_name}
-use Rattle.ntfs_run.specs.Cluster.{ClusterRefuses, cluster_bytes}
+use Rattle.ntfs_run.specs.Cat.{PutsStream, stream_name}
 use Rattle.ntfs_run.specs.Command.{request_in, tool_in}
-use Rattle.ntfs_run.specs.Info.{InfoRefuses, info_bytes}
 use Rattle.ntfs_run.specs.Make.{LeavesFile, MakeRefuses, make_work}
-use Rattle.ntfs_run.specs.Message.{message_of}
+use Rattle.ntfs_run.specs.Message.{file_named, message_of}
 use Rattle.ntfs_run.specs.Outcome.{Does, Outcome, outcome_of, refused_with, shows, status_origin, words_status}
+use Rattle.ntfs_run.specs.Show.{ShowRefuses, image_printing}
+use Rattle.ntfs_run.specs.Shown.{of_file}
 use Rattle.ntfs_run.specs.declared.status.Status.{Status}
 use Rattle.ntfs_run.specs.declared.status.Status.TheVariants as status
 
 -- ---- an arm for each tool
 
--- what a request does; the others are of no tool that stands
+-- what a request does: ntfsmake makes, the others show
 abbrev pub request_outcome : Request → Files → Outcome
-request_outcome (request.Info mft number image) files = shows files (printing_of (info_bytes image files))
-request_outcome (request.Cat (target.Number number) kind name image) files =
-    shows files (printing_of (cat_bytes image number kind (stream_name name) files))
-request_outcome (request.Cluster ask image) files =
-    shows files (printing_of (cluster_bytes image owner_query.Info files))
 request_outcome (request.Make file seed clusters cluster) files =
     outcome_of files (make_work file seed clusters cluster files)
-request_outcome other files = refused_with (status.Usage usage.Tool) files
+request_outcome shown files = shows files (of_file (file_named shown named.Image) files (image_printing shown))
 
--- the refusals of a tool, once its words are taken
-abbrev pub ToolRefuses : Tool → Status → Type 0
-ToolRefuses Info fault = InfoRefuses fault
-ToolRefuses Cat fault = CatRefuses fault
-ToolRefuses Cluster fault = ClusterRefuses fault
-ToolRefuses Make fault = MakeRefuses fault
-ToolRefuses other fault = ⊥
+-- its refusals, once the words are taken
+abbrev pub RequestRefuses : Request → Status → Type 0
+RequestRefuses (request.Make file seed clusters cluster) fault = MakeRefuses fault
+RequestRefuses shown fault = ShowRefuses shown fault
 
 -- what any exit leaves of the files: a tool that only shows changes none
 abbrev pub RequestLeaves : Request → Files → Files → Type 0
@@ -71,7 +60,7 @@ outcome_for (Err fault) files = refused_with (words_status fault) files
 
 -- the refusals that they have
 abbrev pub CanRefuse : Result Request WordsFault → Status → Type 0
-CanRefuse (Ok request) fault = ToolRefuses (tool_for request) fault
+CanRefuse (Ok request) fault = RequestRefuses request fault
 CanRefuse (Err refusal) fault = fault ≡ words_status refusal
 
 abbrev pub LeavesFiles : Result Request WordsFault → Files → Files → Type 0
@@ -93,13 +82,13 @@ abbrev pub IfDone : Status → Type 0 → Type 0
 IfDone status.Done flushed = flushed
 IfDone other flushed = Unit {0}
 
--- the statuses of a tool, with those of words that it doesn't take; `None` is no tool
-abbrev pub CanAnswer : Option Tool → Status → Type 0
-CanAnswer tool (status.Usage kind) = CanMisuse tool kind
-CanAnswer (Some tool) status.Done = Unit {0}
-CanAnswer (Some tool) status.NoMemory = Unit {0}
-CanAnswer (Some tool) other = ToolRefuses tool other
-CanAnswer None other = ⊥
+-- the statuses of a command line of a tool; `None` is no tool, and then no memory is taken
+abbrev pub CanAnswer : Option Tool → Result Request WordsFault → Status → Type 0
+CanAnswer tool reading (status.Usage kind) = CanMisuse tool kind
+CanAnswer (Some tool) reading status.NoMemory = Unit {0}
+CanAnswer (Some tool) (Ok request) status.Done = Unit {0}
+CanAnswer (Some tool) (Ok request) other = RequestRefuses request other
+CanAnswer tool reading other = ⊥
 
 -- ---- the reply
 
@@ -137,7 +126,7 @@ pub record Replies {S F O E : Type 0} (s : shelf.Ghosts S F) (o : sink.Ghosts O)
   pub usage : (kind : UsageKind) → result ≡ status.Usage kind → request_in words ≡ Err (words_fault.Usage kind)
   pub refused : (kind : UsageKind) → request_in words ≡ Err (words_fault.Usage kind)
       → (result ≡ status.Usage kind) ⊎ (result ≡ status.NoMemory)
-  pub listed : CanAnswer (tool_in words) result
+  pub listed : CanAnswer (tool_in words) (request_in words) result
   pub cause : Because (status_origin result) (Rose (s.faults old).reads (s.faults new).reads)
       ((Rose (s.faults old).writes (s.faults new).writes)
       ⊎ (Rose (o.faults out_old).failures (o.faults out_new).failures)) (Unit {0})

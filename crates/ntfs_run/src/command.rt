@@ -6,16 +6,13 @@ ghost use Rattle.ntfs_run.specs.Command.{is_built};
 ghost use Rattle.ntfs_run.specs.Outcome.{Does, MayWriteFiles, status_of};
 ghost use Rattle.ntfs_run.specs.Reply.{KeepsInput, LeavesFiles, CanRefuse, Replies, KeepsShelf, outcome_for};
 
-use crate::cat::{StreamRequest, cat};
-use crate::cluster::cluster;
-use crate::info::info;
 use crate::make::{MakeRequest, make_file};
 use crate::message::put_message;
 use crate::request::{read_request, tool_in};
+use crate::show::show;
 use crate::status::Status;
 use ntfs_base::{Shelf, Sink, Source, UsageKind};
-use ntfs_show::OwnerQuery;
-use ntfs_words::{Request, Target, WordsFault};
+use ntfs_words::{Request, WordsFault};
 use std::alloc::Global;
 
 /// Runs a command line, without the program's own name, over a shelf of files, an input, an output and a sink of
@@ -61,24 +58,14 @@ fn answer<S: Shelf, O: Sink>(
 {
     match request {
         Err(fault) => Err(Status::from(*fault)),
-        Ok(Request::Info { image, .. }) => info(image.as_str(), shelf, out),
-        Ok(
-            Request::Cat {
-                target: Target::Number { number },
-                kind,
-                name,
-                image,
-            },
-        ) => {
-            let stream = StreamRequest {
-                number: *number,
-                kind: *kind,
-                name,
-            };
-            cat(alloc, image.as_str(), &stream, shelf, out)
+        Ok(request @ Request::Info { image, .. }) => {
+            show(alloc, request, image.as_str(), shelf, out)
         }
-        Ok(Request::Cluster { image, .. }) => {
-            cluster(alloc, image.as_str(), OwnerQuery::Info, shelf, out)
+        Ok(request @ Request::Cat { image, .. }) => {
+            show(alloc, request, image.as_str(), shelf, out)
+        }
+        Ok(request @ Request::Cluster { image, .. }) => {
+            show(alloc, request, image.as_str(), shelf, out)
         }
         Ok(
             Request::Make {

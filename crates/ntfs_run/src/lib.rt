@@ -10,6 +10,7 @@ mod make;
 mod message;
 mod outside;
 mod request;
+mod show;
 mod status;
 
 pub use command::run;

@@ -104,7 +104,7 @@ fn ten_thousand_words_are_refused(rt: HostRuntime) -> Result<(), Fail> {
     }
     let ran = run_over(alloc, &words, None, NO_FAULT)?;
     assert_eq!(rt; ran.status, LINE);
-    assert!(rt; ran.err.content.as_slice() == b"ntfsinfo: usage: line\n");
+    assert!(rt; ran.err.content.as_slice() == b"ntfsinfo: usage: line\n".as_slice());
     Ok(())
 }
 

@@ -1,7 +1,7 @@
 -- Which refusals the words of each tool can have.
 use Rattle.std.proofs.Common.{◌≡◌, Bool, true, false, List, ℕ, sym, subst, Result, Ok, Err, Option, Some, None, IfErr, ok_or}
-use Rattle.std.specs.Prelude.{if◌then◌else◌}
-use Rattle.clap.specs.Words.{App, Row, Text}
+use Rattle.std.specs.Prelude.{◌==◌, length, if◌then◌else◌}
+use Rattle.clap.specs.Words.{App, Row, Text, fault_of, matches_of}
 use Rattle.ntfs_base.specs.Frames.{must, ◌>>=◌}
 use Rattle.ntfs_base.specs.declared.refusal.UsageKind.{UsageKind}
 use Rattle.ntfs_base.specs.declared.refusal.UsageKind.TheVariants as usage
@@ -12,12 +12,13 @@ use Rattle.ntfs_words.specs.Cluster.{ask_in, cluster_asked, cluster_request}
 use Rattle.ntfs_words.specs.Cp.{cp_asked, cp_request, cp_target}
 use Rattle.ntfs_words.specs.Fix.{fix_asked, fix_request}
 use Rattle.ntfs_words.specs.Info.{info_asked, info_request}
-use Rattle.ntfs_words.specs.Line.{Reads, line_of, word_of}
+use Rattle.ntfs_words.specs.Line.{Reads, line_of, text_of, word_of}
+use Rattle.ntfs_words.specs.Numbers.{kind_of, number_of, range_of, size_of}
 use Rattle.ntfs_words.specs.Ls.{ls_asked, ls_request}
 use Rattle.ntfs_words.specs.Make.{make_asked, make_request}
 use Rattle.ntfs_words.specs.Resize.{resize_asked, resize_request}
 use Rattle.ntfs_words.specs.Trial.{trial_asked, trial_request}
-use Rattle.ntfs_words.specs.Values.{kind_in, no_number, number_in, number_word, size_in}
+use Rattle.ntfs_words.specs.Values.{combination, kind_in, no_number, number_in, number_word, range_word, size_in}
 use Rattle.ntfs_words.specs.Words.{tool_asked}
 use Rattle.ntfs_words.specs.declared.request.Request.{Request}
 use Rattle.ntfs_words.specs.declared.request.WordsFault.{WordsFault}
@@ -27,138 +28,154 @@ use Rattle.ntfs_words.specs.declared.tool.Tool.TheVariants.{Info, Ls, Cat, Clust
 
 -- ---- steps
 
-then : {A B E : Type 0} (P : E → Type 0) (r : Result A E) (f : A → Result B E) → IfErr r P → ((x : A) → IfErr (f x) P) → IfErr (r >>= f) P
-then P (Ok x) f first rest = rest x
-then P (Err fault) f first rest = first
+-- each refusal is of this kind
+record Fails {A E : Type 0} (P : E → Type 0) (r : Result A E) : Type 0 where
+  pub is : IfErr r P
 
-given : {A E : Type 0} (P : E → Type 0) (o : Option A) (fault : E) → P fault → IfErr (ok_or o fault) P
-given P (Some x) fault is = tt
-given P None fault is = is
+no_fault : {A E : Type 0} (P : E → Type 0) (x : A) → Fails P (Ok x)
+no_fault P x = record { is = tt }
 
-tested : {E : Type 0} (P : E → Type 0) (b : Bool) (fault : E) → P fault → IfErr (must b fault) P
-tested P true fault is = tt
-tested P false fault is = is
+fault : {A E : Type 0} (P : E → Type 0) (e : E) → P e → Fails {A = A} P (Err e)
+fault P e is = record { is = is }
 
-if_not : {A E : Type 0} (P : E → Type 0) (b : Bool) (x : A) (fault : E) → P fault → IfErr (if b then Ok x else Err fault) P
-if_not P true x fault is = tt
-if_not P false x fault is = is
+after : {A B E : Type 0} (P : E → Type 0) (r : Result A E) (f : A → Result B E) → Fails P r → ((x : A) → Fails P (f x)) → Fails P (r >>= f)
+after P (Ok x) f first rest = rest x
+after P (Err e) f first rest = record { is = first.is }
 
-line : (P : WordsFault → Type 0) (app : App) (words : List Text) → P (Usage usage.Line) → IfErr (line_of app words) P
+given : {A E : Type 0} (P : E → Type 0) (o : Option A) (e : E) → P e → Fails P (ok_or o e)
+given P (Some x) e is = record { is = tt }
+given P None e is = record { is = is }
+
+tested : {E : Type 0} (P : E → Type 0) (b : Bool) (e : E) → P e → Fails P (must b e)
+tested P true e is = record { is = tt }
+tested P false e is = record { is = is }
+
+if_not : {A E : Type 0} (P : E → Type 0) (b : Bool) (x : A) (e : E) → P e → Fails P (if b then Ok x else Err e)
+if_not P true x e is = record { is = tt }
+if_not P false x e is = record { is = is }
+
+line : (P : WordsFault → Type 0) (app : App) (words : List Text) → P (Usage usage.Line) → Fails P (line_of app words)
 unfolding line_of
-line P app words is = if_not P _ _ (Usage usage.Line) is
+line P app words is = if_not P (length (fault_of app words) == 0) (matches_of app words) (Usage usage.Line) is
 
-word : (P : WordsFault → Type 0) (id : Text) (rows : List Row) → P (Usage usage.Line) → IfErr (word_of id rows) P
+word : (P : WordsFault → Type 0) (id : Text) (rows : List Row) → P (Usage usage.Line) → Fails P (word_of id rows)
 unfolding word_of
-word P id rows is = given P _ (Usage usage.Line) is
+word P id rows is = given P (text_of id rows) (Usage usage.Line) is
 
-a_number : (P : WordsFault → Type 0) (o : Option Text) → P no_number → IfErr (number_in o) P
+number : (P : WordsFault → Type 0) (text : Text) → P no_number → Fails P (number_word text)
+number P text is = given P (number_of text) no_number is
+
+a_number : (P : WordsFault → Type 0) (o : Option Text) → P no_number → Fails P (number_in o)
 unfolding number_in
-a_number P None is = tt
-a_number P (Some text) is = then P (number_word text) _ (given P _ no_number is) (λ number. tt)
+a_number P None is = no_fault P None
+a_number P (Some text) is = after P (number_word text) (λ number. Ok (Some number)) (number P text is) (λ number. no_fault P (Some number))
 
-a_kind : (P : WordsFault → Type 0) (o : Option Text) → P no_number → IfErr (kind_in o) P
+a_kind : (P : WordsFault → Type 0) (o : Option Text) → P no_number → Fails P (kind_in o)
 unfolding kind_in
-a_kind P None is = tt
-a_kind P (Some text) is = given P _ no_number is
+a_kind P None is = no_fault P 128
+a_kind P (Some text) is = given P (kind_of text) no_number is
 
-a_size : (P : WordsFault → Type 0) (o : Option Text) → P no_number → IfErr (size_in o) P
+a_size : (P : WordsFault → Type 0) (o : Option Text) → P no_number → Fails P (size_in o)
 unfolding size_in
-a_size P None is = tt
-a_size P (Some text) is = then P _ _ (given P _ no_number is) (λ size. tt)
+a_size P None is = no_fault P None
+a_size P (Some text) is =
+    after P (ok_or (size_of text) no_number) (λ size. Ok (Some size)) (given P (size_of text) no_number is) (λ size. no_fault P (Some size))
 
 -- ---- tools
 
-info : (words : List Text) → IfErr (info_asked words) (CanFail (Some Info))
+info : (words : List Text) → Fails (CanFail (Some Info)) (info_asked words)
 unfolding info_asked info_request
 info words =
     let P = CanFail (Some Info) in
-    then P _ _ (line P _ words tt) (λ rows. then P _ _ (word P _ rows tt) (λ image. then P _ _ (tested P _ _ tt) (λ one.
-    then P _ _ (a_number P _ tt) (λ number. tt))))
+    after P _ _ (line P _ words tt) (λ rows. after P _ _ (word P _ rows tt) (λ image. after P _ _ (tested P _ _ tt) (λ one.
+    after P _ _ (a_number P _ tt) (λ number. no_fault P _))))
 
-ls : (words : List Text) → IfErr (ls_asked words) (CanFail (Some Ls))
+ls : (words : List Text) → Fails (CanFail (Some Ls)) (ls_asked words)
 unfolding ls_asked ls_request
 ls words =
     let P = CanFail (Some Ls) in
-    then P _ _ (line P _ words tt) (λ rows. then P _ _ (word P _ rows tt) (λ image. tt))
+    after P _ _ (line P _ words tt) (λ rows. after P _ _ (word P _ rows tt) (λ image. no_fault P _))
 
-target : (number path : Option Text) → IfErr (cat_target number path) (CanFail (Some Cat))
+target : (number path : Option Text) → Fails (CanFail (Some Cat)) (cat_target number path)
 unfolding cat_target
-target (Some number) None = then (CanFail (Some Cat)) (number_word number) _ (given (CanFail (Some Cat)) _ no_number tt) (λ value. tt)
-target None (Some path) = tt
-target number path = tt
+target (Some text) None = after (CanFail (Some Cat)) (number_word text) _ (number (CanFail (Some Cat)) text tt) (λ value. no_fault (CanFail (Some Cat)) _)
+target None (Some path) = no_fault (CanFail (Some Cat)) _
+target number path = fault (CanFail (Some Cat)) combination tt
 
-cat : (words : List Text) → IfErr (cat_asked words) (CanFail (Some Cat))
+cat : (words : List Text) → Fails (CanFail (Some Cat)) (cat_asked words)
 unfolding cat_asked cat_request
 cat words =
     let P = CanFail (Some Cat) in
-    then P _ _ (line P _ words tt) (λ rows. then P _ _ (word P _ rows tt) (λ image. then P _ _ (target _ _) (λ stream.
-    then P _ _ (a_kind P _ tt) (λ kind. tt))))
+    after P _ _ (line P _ words tt) (λ rows. after P _ _ (word P _ rows tt) (λ image. after P _ _ (target _ _) (λ stream.
+    after P _ _ (a_kind P _ tt) (λ kind. no_fault P _))))
 
-question : (info : Bool) (range number path : Option Text) → IfErr (ask_in info range number path) (CanFail (Some Cluster))
+question : (info : Bool) (range number path : Option Text) → Fails (CanFail (Some Cluster)) (ask_in info range number path)
 unfolding ask_in
-question true range number path = tt
-question false (Some range) number path = then (CanFail (Some Cluster)) _ _ (given (CanFail (Some Cluster)) _ no_number tt) (λ value. tt)
-question false None (Some number) path = then (CanFail (Some Cluster)) (number_word number) _ (given (CanFail (Some Cluster)) _ no_number tt) (λ value. tt)
-question false None None (Some path) = tt
-question false None None None = tt
+question true range number path = no_fault (CanFail (Some Cluster)) _
+question false (Some range) number path =
+    after (CanFail (Some Cluster)) (range_word range) _ (given (CanFail (Some Cluster)) (range_of range) no_number tt) (λ value. no_fault (CanFail (Some Cluster)) _)
+question false None (Some text) path =
+    after (CanFail (Some Cluster)) (number_word text) _ (number (CanFail (Some Cluster)) text tt) (λ value. no_fault (CanFail (Some Cluster)) _)
+question false None None (Some path) = no_fault (CanFail (Some Cluster)) _
+question false None None None = fault (CanFail (Some Cluster)) combination tt
 
-cluster : (words : List Text) → IfErr (cluster_asked words) (CanFail (Some Cluster))
+cluster : (words : List Text) → Fails (CanFail (Some Cluster)) (cluster_asked words)
 unfolding cluster_asked cluster_request
 cluster words =
     let P = CanFail (Some Cluster) in
-    then P _ _ (line P _ words tt) (λ rows. then P _ _ (word P _ rows tt) (λ image. then P _ _ (tested P _ _ tt) (λ one.
-    then P _ _ (question _ _ _ _) (λ question. tt))))
+    after P _ _ (line P _ words tt) (λ rows. after P _ _ (word P _ rows tt) (λ image. after P _ _ (tested P _ _ tt) (λ one.
+    after P _ _ (question _ _ _ _) (λ question. no_fault P _))))
 
-stream : (by_number : Bool) (text : Text) → IfErr (cp_target by_number text) (CanFail (Some Cp))
+stream : (by_number : Bool) (text : Text) → Fails (CanFail (Some Cp)) (cp_target by_number text)
 unfolding cp_target
-stream false text = tt
-stream true text = then (CanFail (Some Cp)) (number_word text) _ (given (CanFail (Some Cp)) _ no_number tt) (λ value. tt)
+stream false text = no_fault (CanFail (Some Cp)) _
+stream true text = after (CanFail (Some Cp)) (number_word text) _ (number (CanFail (Some Cp)) text tt) (λ value. no_fault (CanFail (Some Cp)) _)
 
-cp : (words : List Text) → IfErr (cp_asked words) (CanFail (Some Cp))
+cp : (words : List Text) → Fails (CanFail (Some Cp)) (cp_asked words)
 unfolding cp_asked cp_request
 cp words =
     let P = CanFail (Some Cp) in
-    then P _ _ (line P _ words tt) (λ rows. then P _ _ (word P _ rows tt) (λ image. then P _ _ (word P _ rows tt) (λ source.
-    then P _ _ (word P _ rows tt) (λ dest. then P _ _ (stream _ _) (λ stream. then P _ _ (a_kind P _ tt) (λ kind.
-    then P _ _ (tested P _ _ tt) (λ other. tt)))))))
+    after P _ _ (line P _ words tt) (λ rows. after P _ _ (word P _ rows tt) (λ image. after P _ _ (word P _ rows tt) (λ source.
+    after P _ _ (word P _ rows tt) (λ dest. after P _ _ (stream _ _) (λ stream. after P _ _ (a_kind P _ tt) (λ kind.
+    after P _ _ (tested P _ _ tt) (λ other. no_fault P _)))))))
 
-clone : (words : List Text) → IfErr (clone_asked words) (CanFail (Some Clone))
+clone : (words : List Text) → Fails (CanFail (Some Clone)) (clone_asked words)
 unfolding clone_asked clone_request
 clone words =
     let P = CanFail (Some Clone) in
-    then P _ _ (line P _ words tt) (λ rows. then P _ _ (tested P _ _ tt) (λ fit. then P _ _ (tested P _ _ tt) (λ other. tt)))
+    after P _ _ (line P _ words tt) (λ rows. after P _ _ (tested P _ _ tt) (λ fit. after P _ _ (tested P _ _ tt) (λ other. no_fault P _)))
 
-resize : (words : List Text) → IfErr (resize_asked words) (CanFail (Some Resize))
+resize : (words : List Text) → Fails (CanFail (Some Resize)) (resize_asked words)
 unfolding resize_asked resize_request
 resize words =
     let P = CanFail (Some Resize) in
-    then P _ _ (line P _ words tt) (λ rows. then P _ _ (word P _ rows tt) (λ image. then P _ _ (tested P _ _ tt) (λ alone.
-    then P _ _ (a_size P _ tt) (λ size. tt))))
+    after P _ _ (line P _ words tt) (λ rows. after P _ _ (word P _ rows tt) (λ image. after P _ _ (tested P _ _ tt) (λ alone.
+    after P _ _ (a_size P _ tt) (λ size. no_fault P _))))
 
-fix : (words : List Text) → IfErr (fix_asked words) (CanFail (Some Fix))
+fix : (words : List Text) → Fails (CanFail (Some Fix)) (fix_asked words)
 unfolding fix_asked fix_request
 fix words =
     let P = CanFail (Some Fix) in
-    then P _ _ (line P _ words tt) (λ rows. then P _ _ (word P _ rows tt) (λ image. then P _ _ (tested P _ _ tt) (λ fit. tt)))
+    after P _ _ (line P _ words tt) (λ rows. after P _ _ (word P _ rows tt) (λ image. after P _ _ (tested P _ _ tt) (λ fit. no_fault P _)))
 
-make : (words : List Text) → IfErr (make_asked words) (CanFail (Some Make))
+make : (words : List Text) → Fails (CanFail (Some Make)) (make_asked words)
 unfolding make_asked make_request
 make words =
     let P = CanFail (Some Make) in
-    then P _ _ (line P _ words tt) (λ rows. then P _ _ (word P _ rows tt) (λ file. then P _ _ (word P _ rows tt) (λ first.
-    then P _ _ (word P _ rows tt) (λ second. then P _ _ (word P _ rows tt) (λ third.
-    then P _ _ (given P _ no_number tt) (λ seed. then P _ _ (given P _ no_number tt) (λ clusters.
-    then P _ _ (given P _ no_number tt) (λ cluster. then P _ _ (tested P _ _ tt) (λ range. tt)))))))))
+    after P _ _ (line P _ words tt) (λ rows. after P _ _ (word P _ rows tt) (λ file. after P _ _ (word P _ rows tt) (λ first.
+    after P _ _ (word P _ rows tt) (λ second. after P _ _ (word P _ rows tt) (λ third.
+    after P _ _ (number P _ tt) (λ seed. after P _ _ (number P _ tt) (λ clusters.
+    after P _ _ (number P _ tt) (λ cluster. after P _ _ (tested P _ _ tt) (λ range. no_fault P _)))))))))
 
-trial : (words : List Text) → IfErr (trial_asked words) (CanFail (Some Trial))
+trial : (words : List Text) → Fails (CanFail (Some Trial)) (trial_asked words)
 unfolding trial_asked trial_request
 trial words =
     let P = CanFail (Some Trial) in
-    then P _ _ (line P _ words tt) (λ rows. then P _ _ (word P _ rows tt) (λ first. then P _ _ (word P _ rows tt) (λ name.
-    then P _ _ (given P _ no_number tt) (λ seed. tt))))
+    after P _ _ (line P _ words tt) (λ rows. after P _ _ (word P _ rows tt) (λ first. after P _ _ (word P _ rows tt) (λ name.
+    after P _ _ (number P _ tt) (λ seed. no_fault P _))))
 
-of_tool : (tool : Option Tool) (words : List Text) → IfErr (tool_asked tool words) (CanFail tool)
-of_tool None words = tt
+of_tool : (tool : Option Tool) (words : List Text) → Fails (CanFail tool) (tool_asked tool words)
+of_tool None words = fault (CanFail None) (Usage usage.Tool) tt
 of_tool (Some Info) words = info words
 of_tool (Some Ls) words = ls words
 of_tool (Some Cat) words = cat words
@@ -172,9 +189,9 @@ of_tool (Some Trial) words = trial words
 
 -- ---- an answer to words
 
-read_as : {T : Type 0} (P : WordsFault → Type 0) (expected result : Result T WordsFault) → Reads expected result → IfErr expected P → P NoMemory → IfErr result P
+read_as : {T : Type 0} (P : WordsFault → Type 0) (expected result : Result T WordsFault) → Reads expected result → Fails P expected → P NoMemory → IfErr result P
 read_as P expected (Ok x) is kinds wanting = tt
-read_as P expected (Err (Usage kind)) is kinds wanting = subst (λ r. IfErr r P) (is tt) kinds
+read_as P expected (Err (Usage kind)) is kinds wanting = (subst (Fails P) (is tt) kinds).is
 read_as P expected (Err NoMemory) is kinds wanting = wanting
 
 -- of a tool
