@@ -1,13 +1,13 @@
--- What ntfscat puts: nothing where the image isn't there, and where the work was done the stream of the record.
-use Rattle.std.proofs.Common.{◌≡◌, [], List, ℕ, refl, sym, ap, ◌∙◌, Result, Ok, Err, Option, Some, None, ok_or}
+-- What ntfscat puts: where its work was done, the stream of the record.
+use Rattle.std.proofs.Common.{◌≡◌, ℕ, List, refl, sym, ap, ◌∙◌, Result, Ok, Err, Option, Some, None, ok_or}
 use Rattle.ntfs_base.specs.Bytes.{cluster_at}
-use Rattle.ntfs_base.specs.Frames.{IsSettled, must, refused_as, ◌>>=◌}
+use Rattle.ntfs_base.specs.Frames.{must, refused_as, ◌>>=◌}
 use Rattle.ntfs_base.specs.Shelf.{Files, file_of}
 use Rattle.ntfs_base.specs.Sink.{SinkState, after_put}
 use Rattle.ntfs_base.specs.declared.refusal.Named.TheVariants as named
 use Rattle.ntfs_show.specs.Cat.{cat_outcome, gathered_stream}
 use Rattle.ntfs_show.specs.Fault.{gather_refusal, stream_refusal}
-use Rattle.ntfs_show.specs.Printing.{printing_of}
+use Rattle.ntfs_show.specs.Printing.{Printing, end_of, printing_of}
 use Rattle.ntfs_show.specs.declared.fault.ShowFault.{ShowFault}
 use Rattle.ntfs_show.specs.declared.fault.ShowFault.TheVariants as show
 use Rattle.ntfs_stream.specs.StreamBytes.{is_plain, stream_outcome}
@@ -21,39 +21,14 @@ use Rattle.ntfs_words.specs.declared.request.Request.{Request}
 use Rattle.ntfs_words.specs.declared.request.Request.TheVariants as request
 use Rattle.ntfs_words.specs.declared.request.Target.TheVariants as target
 use Rattle.ntfs_words.specs.declared.request.WordsFault.{WordsFault}
-use Rattle.ntfs_run.specs.Cat.{IsStreamOf, PutsStream, cat_bytes, record_bytes, stream_name}
-use Rattle.ntfs_run.specs.Outcome.{Does, show_status, shows, status_origin, volume_status}
+use Rattle.ntfs_run.specs.Cat.{IsStreamOf, PutsStream, cat_bytes, stream_name}
+use Rattle.ntfs_run.specs.Outcome.{Does, show_status, status_of, status_origin, volume_status}
 use Rattle.ntfs_run.specs.Reply.{PutsIfCat, outcome_for}
+use Rattle.ntfs_run.specs.Show.{image_printing, volume_printing}
+use Rattle.ntfs_run.specs.Shown.{of_volume, printing_after}
 use Rattle.ntfs_run.specs.declared.status.Status.{Status}
 use Rattle.ntfs_run.specs.declared.status.Status.TheVariants as status
-use Rattle.ntfs_base.proofs.FramesLemmas.{gives_as}
-use Rattle.ntfs_run.proofs.ToolLemmas.{bind_ok, given_some, must_ok, refused_ok}
-
--- ---- the stream of a record
-
-the_same : {E : Type 0} (r : Result (List ℕ) E) (a b : List ℕ) → r ≡ Ok a → r ≡ Ok b → b ≡ a
-the_same r a b one other = cc
-
--- what the outcome shows is the bytes of the stream
-stream_is_told : (image : List ℕ) (number kind : ℕ) (name bytes : List ℕ) → record_bytes image number kind name ≡ Ok bytes
-    → IsStreamOf image number kind name bytes
-unfolding record_bytes cat_outcome stream_outcome
-stream_is_told image number kind name bytes is =
-    let opened = bind_ok (refused_as volume_status (opened_of image)) _ bytes is in
-    let volume = opened.0 in
-    let shown = refused_ok show_status (cat_outcome volume image number kind name) bytes opened.2 in
-    let gathered = bind_ok (gathered_stream volume image number kind name) _ bytes shown in
-    let found = gathered.0 in
-    let told = refused_ok stream_refusal (stream_outcome volume.geometry image found.stream) bytes gathered.2 in
-    let plain = bind_ok (must (is_plain found.stream.flags) (stream.NotPlain found.stream.flags)) _ bytes told in
-    record {
-      volume = volume;
-      found = found;
-      opened = refused_ok volume_status (opened_of image) volume opened.1;
-      gathered = refused_ok (gather_refusal number) (gather_of volume.geometry volume.map (cluster_at image volume.geometry.cluster) number kind name) found gathered.1;
-      plain = must_ok (is_plain found.stream.flags) (stream.NotPlain found.stream.flags) plain.0 plain.1;
-      whole = the_same _ _ bytes refl plain.2;
-    }
+use Rattle.ntfs_run.proofs.ToolLemmas.{bind_ok, must_ok, refused_ok}
 
 -- ---- the opening of the volume
 
@@ -68,29 +43,29 @@ volume-origin volume.NoMemory = refl
 volume-origin volume.Absent = refl
 volume-origin volume.NoAttribute = refl
 
-pub record_refused : (image : List ℕ) (number kind : ℕ) (name : List ℕ) (fault : VolumeFault) → (IsSettled (volume_origin fault) → opened_of image ≡ Err fault)
-    → IsSettled (status_origin (volume_status fault)) → record_bytes image number kind name ≡ Err (volume_status fault)
-unfolding record_bytes
-record_refused image number kind name fault is settled =
-    ap (λ r. r >>= (λ volume. refused_as show_status (cat_outcome volume image number kind name)))
-    (gives_as volume_origin status_origin volume_status volume-origin (opened_of image) fault is settled)
+-- ---- the stream of a record
 
-pub record_opened : (image : List ℕ) (number kind : ℕ) (name : List ℕ) (v : Opened) → opened_of image ≡ Ok v
-    → record_bytes image number kind name ≡ refused_as show_status (cat_outcome v image number kind name)
-unfolding record_bytes
-record_opened image number kind name v is = rw is refl
+the_same : {E : Type 0} (r : Result (List ℕ) E) (a b : List ℕ) → r ≡ Ok a → r ≡ Ok b → b ≡ a
+the_same r a b one other = cc
 
--- ---- the image of a name
-
-pub cat_held : (file : List ℕ) (number kind : ℕ) (name : List ℕ) (files : Files) (image : List ℕ) → ok_or (file_of files file) (status.Absent named.Image) ≡ Ok image
-    → cat_bytes file number kind name files ≡ record_bytes image number kind name
-unfolding cat_bytes
-cat_held file number kind name files image is = ap (λ r. r >>= (λ image. record_bytes image number kind name)) is
-
-pub cat_absent : (file : List ℕ) (number kind : ℕ) (name : List ℕ) (files : Files) (fault : Status) → ok_or (file_of files file) (status.Absent named.Image) ≡ Err fault
-    → cat_bytes file number kind name files ≡ Err fault
-unfolding cat_bytes
-cat_absent file number kind name files fault is = ap (λ r. r >>= (λ image. record_bytes image number kind name)) is
+-- what the outcome shows is the bytes of the stream
+stream_is_told : (image : List ℕ) (volume : Opened) (number kind : ℕ) (name bytes : List ℕ) → opened_of image ≡ Ok volume
+    → cat_bytes number kind name volume image ≡ Ok bytes → IsStreamOf image number kind name bytes
+unfolding cat_bytes cat_outcome stream_outcome
+stream_is_told image volume number kind name bytes opened is =
+    let shown = refused_ok show_status (cat_outcome volume image number kind name) bytes is in
+    let gathered = bind_ok (gathered_stream volume image number kind name) _ bytes shown in
+    let found = gathered.0 in
+    let told = refused_ok stream_refusal (stream_outcome volume.geometry image found.stream) bytes gathered.2 in
+    let plain = bind_ok (must (is_plain found.stream.flags) (stream.NotPlain found.stream.flags)) _ bytes told in
+    record {
+      volume = volume;
+      found = found;
+      opened = opened;
+      gathered = refused_ok (gather_refusal number) (gather_of volume.geometry volume.map (cluster_at image volume.geometry.cluster) number kind name) found gathered.1;
+      plain = must_ok (is_plain found.stream.flags) (stream.NotPlain found.stream.flags) plain.0 plain.1;
+      whole = the_same _ _ bytes refl plain.2;
+    }
 
 -- ---- where the work was done
 
@@ -117,49 +92,47 @@ done_shown : (outcome : Result (List ℕ) ShowFault) → refused_as show_status 
 done_shown (Ok bytes) is = cc
 done_shown (Err fault) is = done_show fault cc
 
-done_opened : (opened : Result Opened VolumeFault) (f : Opened → Result (List ℕ) ShowFault)
-    → (refused_as volume_status opened >>= (λ v. refused_as show_status (f v))) ≡ Err status.Done → ⊥
-done_opened (Ok v) f is = done_shown (f v) is
-done_opened (Err fault) f is = done_volume fault cc
-
-done_record : (image : List ℕ) (number kind : ℕ) (name : List ℕ) → record_bytes image number kind name ≡ Err status.Done → ⊥
-unfolding record_bytes
-done_record image number kind name is = done_opened (opened_of image) (λ v. cat_outcome v image number kind name) is
-
-done_bytes : (o : Option (List ℕ)) (number kind : ℕ) (name : List ℕ)
-    → (ok_or o (status.Absent named.Image) >>= (λ image. record_bytes image number kind name)) ≡ Err status.Done → ⊥
-done_bytes (Some image) number kind name is = done_record image number kind name is
-done_bytes None number kind name is = cc
-
-no_refusal : (file : List ℕ) (number kind : ℕ) (name : List ℕ) (files : Files) → cat_bytes file number kind name files ≡ Err status.Done → ⊥
+no_refusal : (number kind : ℕ) (name : List ℕ) (volume : Opened) (image : List ℕ) → cat_bytes number kind name volume image ≡ Err status.Done → ⊥
 unfolding cat_bytes
-no_refusal file number kind name files is = done_bytes (file_of files file) number kind name is
+no_refusal number kind name volume image is = done_shown (cat_outcome volume image number kind name) is
 
--- the bytes are those of the stream
-stream_of : (file : List ℕ) (number kind : ℕ) (name : List ℕ) (files : Files) (bytes : List ℕ) (before after : SinkState) → cat_bytes file number kind name files ≡ Ok bytes
-    → after ≡ after_put bytes before → PutsStream file number kind name files before after
-unfolding cat_bytes
-stream_of file number kind name files bytes before after is put =
-    let held = bind_ok (ok_or (file_of files file) (status.Absent named.Image)) (λ image. record_bytes image number kind name) bytes is in
-    record {
-      image = held.0;
-      bytes = bytes;
-      held = given_some (file_of files file) (status.Absent named.Image) held.0 held.1;
-      stream = stream_is_told held.0 number kind name bytes held.2;
-      put = put;
-    }
+-- all of it was put, and it ended without a refusal
+abbrev IsDone : Printing Status → SinkState → SinkState → Type 0
+IsDone printing before after = (status.Done ≡ status_of (end_of printing.fault)) × (after ≡ after_put printing.output before)
 
-done_stream : (file : List ℕ) (number kind : ℕ) (name : List ℕ) (files left : Files) (before after : SinkState) (r : Result (List ℕ) Status) → cat_bytes file number kind name files ≡ r
-    → Does (shows files (printing_of r)) status.Done before after left → PutsStream file number kind name files before after
-done_stream file number kind name files left before after (Ok bytes) is does = stream_of file number kind name files bytes before after is (does.output tt)
-done_stream file number kind name files left before after (Err fault) is does = absurd (no_refusal file number kind name files (is ∙ ap Err (sym (does.status tt))))
+module _ (file : List ℕ) (number kind : ℕ) (name : Option (List ℕ)) (files : Files) (before after : SinkState) where
+  bytes_done : (image : List ℕ) (volume : Opened) → file_of files file ≡ Some image → opened_of image ≡ Ok volume
+      → (r : Result (List ℕ) Status) → cat_bytes number kind (stream_name name) volume image ≡ r → IsDone (printing_of r) before after
+      → PutsStream file number kind (stream_name name) files before after
+  bytes_done image volume held opened (Ok bytes) is done = record {
+    image = image;
+    bytes = bytes;
+    held = held;
+    stream = stream_is_told image volume number kind (stream_name name) bytes opened is;
+    put = done.1;
+  }
+  bytes_done image volume held opened (Err fault) is done =
+      absurd (no_refusal number kind (stream_name name) volume image (is ∙ ap Err (sym done.0)))
+
+  volume_done : (image : List ℕ) → file_of files file ≡ Some image → (r : Result Opened VolumeFault) → opened_of image ≡ r
+      → IsDone (printing_after (refused_as volume_status r) (λ volume. printing_of (cat_bytes number kind (stream_name name) volume image))) before after
+      → PutsStream file number kind (stream_name name) files before after
+  volume_done image held (Ok volume) opened done = bytes_done image volume held opened (cat_bytes number kind (stream_name name) volume image) refl done
+  volume_done image held (Err fault) opened done = absurd (done_volume fault (sym done.0))
+
+  file_done : (o : Option (List ℕ)) → file_of files file ≡ o
+      → IsDone (printing_after (ok_or o (status.Absent named.Image)) (image_printing (request.Cat (target.Number number) kind name file))) before after
+      → PutsStream file number kind (stream_name name) files before after
+  unfolding image_printing volume_printing
+  file_done (Some image) held done = volume_done image held (opened_of image) refl done
+  file_done None held done = absurd cc
 
 -- ntfscat puts the stream, of whatever words it was told
 cat_stream : (file : List ℕ) (number kind : ℕ) (name : Option (List ℕ)) (s : Status) (files left : Files) (before after : SinkState)
-    → Does (shows files (printing_of (cat_bytes file number kind (stream_name name) files))) s before after left
+    → Does (outcome_for (Ok (request.Cat (target.Number number) kind name file)) files) s before after left
     → PutsIfCat (Ok (request.Cat (target.Number number) kind name file)) s files before after
 cat_stream file number kind name status.Done files left before after does =
-    done_stream file number kind (stream_name name) files left before after (cat_bytes file number kind (stream_name name) files) refl does
+    file_done file number kind name files before after (file_of files file) refl (does.status tt, does.output tt)
 cat_stream file number kind name other files left before after does = tt
 
 pub puts_stream : (reading : Result Request WordsFault) (s : Status) (files left : Files) (before after : SinkState)

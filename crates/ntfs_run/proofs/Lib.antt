@@ -3,7 +3,6 @@ pub mod RangeLemmas
 pub mod RequestLemmas
 pub mod ToolLemmas
 pub mod MakeLemmas
-pub mod InfoLemmas
 pub mod CatLemmas
-pub mod ClusterLemmas
+pub mod ShowLemmas
 pub mod ReplyLemmas

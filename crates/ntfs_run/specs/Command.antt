@@ -1,6 +1,6 @@
 -- What the words of a command line ask of the tools that stand, or how they are refused. The first word names the tool.
 -- The rules are ours.
-use Rattle.std.specs.Prelude.{ℕ, Bool, true, false, List, Option, Result, Ok}
+use Rattle.std.specs.Prelude.{ℕ, Bool, true, false, List, Option, None, Result, Ok}
 use Rattle.std.specs.Option.{ok_or}
 use Rattle.ntfs_base.specs.Frames.{must, ◌>>=◌}
 use Rattle.ntfs_base.specs.declared.refusal.UsageKind.TheVariants as usage
@@ -35,7 +35,7 @@ tool_in words = only_if is_standing (tool_of words)
 
 -- what the tools that stand do already
 abbrev pub is_built : Request → Bool
-is_built (request.Info mft number image) = mft
+is_built (request.Info mft None image) = true
 is_built (request.Cat (target.Number number) kind name image) = true
 is_built (request.Cluster ask.Info image) = true
 is_built (request.Make file seed clusters cluster) = true

@@ -39,7 +39,7 @@ fn is_built(request: &Request) -> bool
     ensures { result ≡ is_built request.now }
 {
     match request {
-        Request::Info { mft, .. } => *mft,
+        Request::Info { number: None, .. } => true,
         Request::Cat {
             target: Target::Number { .. },
             ..

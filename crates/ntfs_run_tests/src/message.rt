@@ -1,7 +1,7 @@
 //! The message line of each status.
 use crate::statuses::{
-    COMBINATION, LINE, NO_IMAGE, NUMBER, TOOL, bad_geometry, damage_of, guarded_refusal, image_short,
-    no_geometry, no_record, not_plain,
+    COMBINATION, LINE, NO_IMAGE, NUMBER, TOOL, bad_geometry, damage_of, guarded_refusal,
+    image_short, no_geometry, no_record, not_plain,
 };
 use ntfs_base::{Lack, MemSink, Missing, Named, Rule, UsageKind};
 use ntfs_run::{Status, put_message};

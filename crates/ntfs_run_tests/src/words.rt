@@ -61,11 +61,26 @@ fn odd_words_are_names(rt: HostRuntime) -> Result<(), Fail> {
     let cases = [
         absent(&["ntfsinfo", "-m", ""], "ntfsinfo: no such file: \n"),
         absent(&["ntfsinfo", "-m", "-"], "ntfsinfo: no such file: -\n"),
-        absent(&["ntfsinfo", "-m", "help"], "ntfsinfo: no such file: help\n"),
-        absent(&["ntfsinfo", "-m", "\u{E4} \u{20AC}"], "ntfsinfo: no such file: \u{E4} \u{20AC}\n"),
-        absent(&["ntfsinfo", "-m", "--", "-v"], "ntfsinfo: no such file: -v\n"),
-        absent(&["ntfsinfo", "-m", "--", "--"], "ntfsinfo: no such file: --\n"),
-        absent(&["ntfsinfo", "-m", "--", "-m"], "ntfsinfo: no such file: -m\n"),
+        absent(
+            &["ntfsinfo", "-m", "help"],
+            "ntfsinfo: no such file: help\n",
+        ),
+        absent(
+            &["ntfsinfo", "-m", "\u{E4} \u{20AC}"],
+            "ntfsinfo: no such file: \u{E4} \u{20AC}\n",
+        ),
+        absent(
+            &["ntfsinfo", "-m", "--", "-v"],
+            "ntfsinfo: no such file: -v\n",
+        ),
+        absent(
+            &["ntfsinfo", "-m", "--", "--"],
+            "ntfsinfo: no such file: --\n",
+        ),
+        absent(
+            &["ntfsinfo", "-m", "--", "-m"],
+            "ntfsinfo: no such file: -m\n",
+        ),
     ];
     all_answer(&rt, rt.alloc(), b"", &cases)
 }

@@ -100,7 +100,10 @@ fn the_name_of_a_tool_is_the_first_word(rt: HostRuntime) -> Result<(), Fail> {
             return Err("no words".into());
         };
         assert_eq!(rt; words.len(), if first.is_some() { 2 } else { 1 });
-        assert_eq!(rt; words.first().map(|word| word.as_str()), Some(first.unwrap_or("-m")));
+        assert_eq!(rt;
+            words.first().map(|word| word.as_str()),
+            Some(first.unwrap_or("-m"))
+        );
     }
     Ok(())
 }
