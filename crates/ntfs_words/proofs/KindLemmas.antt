@@ -1,11 +1,10 @@
 -- Which refusals the words of each tool can have.
-use Rattle.std.proofs.Common.{◌≡◌, Bool, true, false, List, ℕ, sym, subst, Result, Ok, Err, Option, Some, None, IfErr, ok_or}
+use Rattle.std.proofs.Common.{◌≡◌, Bool, true, false, List, sym, subst, Result, Ok, Err, Option, Some, None, IfErr, ok_or}
 use Rattle.std.specs.Prelude.{◌==◌, ◌||◌, codes, length, not, if◌then◌else◌}
 use Rattle.clap.specs.Words.{App, Row, Text, fault_of, matches_of}
 use Rattle.ntfs_base.specs.Frames.{must, ◌>>=◌}
-use Rattle.ntfs_base.specs.declared.refusal.UsageKind.{UsageKind}
 use Rattle.ntfs_base.specs.declared.refusal.UsageKind.TheVariants as usage
-use Rattle.ntfs_words.specs.Answers.{CanFail, CanMisuse}
+use Rattle.ntfs_words.specs.Answers.{CanFail}
 use Rattle.ntfs_words.specs.Cat.{cat_asked, cat_request, cat_target}
 use Rattle.ntfs_words.specs.Clone.{are_same, clone_asked, clone_request, has_clash, has_gap, output_of}
 use Rattle.ntfs_words.specs.Cluster.{ask_in, cluster_asked, cluster_request}
