@@ -5,3 +5,5 @@ mod AllocationLemmas
 mod NextLemmas
 mod LawLemmas
 mod UpCaseLemmas
+mod EntryLemmas
+mod PathLemmas

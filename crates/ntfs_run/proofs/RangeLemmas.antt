@@ -1,7 +1,7 @@
 -- Numbers that are in the ranges of the words are those of a volume.
 use Rattle.std.proofs.Common.{◌≡◌, ◌&&◌, ◌==◌, ℕ, Bool, true, false, refl, sym, ◌∙◌, nat_le, if◌then◌else◌, IfOk, Result, Ok, Err}
 use Rattle.std.proofs.lemmas.Bool.{leb-true}
-use Rattle.std.specs.Prelude.{IsTrue, List}
+use Rattle.std.specs.Prelude.{List}
 use Rattle.ntfs_make.specs.Shape.{IsShape, is_cluster_size, shape_of}
 use Rattle.ntfs_words.specs.Answers.{HasRanges}
 use Rattle.ntfs_words.specs.Make as ranges
@@ -12,10 +12,6 @@ use Rattle.ntfs_words.specs.declared.request.WordsFault.{WordsFault}
 both : (a b : Bool) → (a && b) ≡ true → (a ≡ true) × (b ≡ true)
 both true b is = (refl, is)
 both false b is = absurd cc
-
-is_true : (b : Bool) → IsTrue b → b ≡ true
-is_true true is = refl
-is_true false is = absurd is
 
 same_sizes : (cluster : ℕ) → is_cluster_size cluster ≡ ranges.is_cluster_size cluster
 unfolding is_cluster_size ranges.is_cluster_size
@@ -32,4 +28,4 @@ range_shape seed clusters cluster is =
 pub made_shape : (reading : Result Request WordsFault) (file : List ℕ) (seed clusters cluster : ℕ) → IfOk reading HasRanges
     → reading ≡ Ok (request.Make file seed clusters cluster) → IsShape (shape_of seed clusters cluster)
 made_shape reading file seed clusters cluster held is =
-    range_shape seed clusters cluster (is_true _ (rw is at held))
+    range_shape seed clusters cluster (rw is at held)

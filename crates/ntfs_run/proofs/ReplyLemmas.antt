@@ -24,10 +24,9 @@ use Rattle.ntfs_words.specs.declared.request.Ask.TheVariants as ask
 use Rattle.ntfs_run.specs.Cat.{CatRefuses}
 use Rattle.ntfs_run.specs.Cluster.{ClusterRefuses}
 use Rattle.ntfs_run.specs.Command.{is_built, request_in, tool_in}
-use Rattle.ntfs_run.specs.Info.{GeometryRefuses}
+use Rattle.ntfs_run.specs.Info.{GeometryRefuses, RecordRefuses}
 use Rattle.ntfs_run.specs.Make.{MakeRefuses}
 use Rattle.ntfs_base.proofs.SinkLemmas.{after_put-nil}
-use Rattle.ntfs_words.specs.declared.request.Target.TheVariants as target
 use Rattle.ntfs_run.specs.Outcome.{Does, MayWriteFiles, Outcome, refused_with, status_of, status_origin, words_status}
 use Rattle.ntfs_run.specs.Message.{line_for, message_for, message_of}
 use Rattle.ntfs_run.specs.Reply.{CanAnswer, CanRefuse, IfDone, KeepsShelf, LeavesFiles, PutsIfCat, PutsMessage, Replies, RequestRefuses}
@@ -49,6 +48,11 @@ geometry_other status.Done is = is
 geometry_other (status.Usage kind) is = is
 geometry_other other is = tt
 
+record_other : (fault : Status) → RecordRefuses fault → IsOther fault
+record_other status.Done is = is
+record_other (status.Usage kind) is = is
+record_other other is = tt
+
 cat_other : (fault : Status) → CatRefuses fault → IsOther fault
 cat_other status.Done is = is
 cat_other (status.Usage kind) is = is
@@ -66,7 +70,8 @@ make_other other is = tt
 
 is_other : (request : Request) (fault : Status) → is_built request ≡ true → RequestRefuses request fault → IsOther fault
 is_other (request.Info mft None image) fault built is = geometry_other fault is
-is_other (request.Cat (target.Number number) kind name image) fault built is = cat_other fault is
+is_other (request.Info mft (Some number) image) fault built is = record_other fault is
+is_other (request.Cat place kind name image) fault built is = cat_other fault is
 is_other (request.Cluster ask.Info image) fault built is = cluster_other fault is
 is_other (request.Make file seed clusters cluster) fault built is = make_other fault is
 is_other other fault built is = absurd cc
@@ -191,7 +196,10 @@ settled s o e words reading old new out_old out_new err_old err_new result put s
 
 -- ---- no memory for the words
 
-ends_wanting : (result : Result (Unit {0}) Status) → IfErr result (CanRefuse (Err words_fault.NoMemory)) → OnOk result (is_ok (Err {A = Request} words_fault.NoMemory) ≡ true)
+abbrev no_memory : Result Request WordsFault
+no_memory = Err words_fault.NoMemory
+
+ends_wanting : (result : Result (Unit {0}) Status) → IfErr result (CanRefuse no_memory) → OnOk result (is_ok no_memory ≡ true)
     → status_of result ≡ status.NoMemory
 ends_wanting (Ok x) refusal taken = absurd cc
 ends_wanting (Err fault) refusal taken = refusal
@@ -209,7 +217,7 @@ cut_off outcome files before after left s is does = record {
 }
 
 no_stream : (reading : Result Request WordsFault) (files : Files) (before after : SinkState) → PutsIfCat reading status.NoMemory files before after
-no_stream (Ok (request.Cat (target.Number number) kind name file)) files before after = tt
+no_stream (Ok (request.Cat place kind name file)) files before after = tt
 no_stream other files before after = tt
 
 leaves_same : (reading : Result Request WordsFault) (old new : Files) → new ≡ old → LeavesFiles reading old new

@@ -63,8 +63,8 @@ built words request is asks =
 
 pub unbuilt_words : (words : List (List ℕ)) (request : Request) → is_none (tool_in words) ≡ false → asked words ≡ Ok request → is_built request ≡ false
     → request_in words ≡ Err (Usage usage.Line)
-unbuilt_words words request is asks no = built words request is asks ∙ ap (λ b. must b (Usage usage.Line) >>= (λ built. Ok request)) no
+unbuilt_words words request is asks unbuilt = built words request is asks ∙ ap (λ b. must b (Usage usage.Line) >>= (λ built. Ok request)) unbuilt
 
 pub taken_words : (words : List (List ℕ)) (request : Request) → is_none (tool_in words) ≡ false → asked words ≡ Ok request → is_built request ≡ true
     → request_in words ≡ Ok request
-taken_words words request is asks yes = built words request is asks ∙ ap (λ b. must b (Usage usage.Line) >>= (λ built. Ok request)) yes
+taken_words words request is asks stands = built words request is asks ∙ ap (λ b. must b (Usage usage.Line) >>= (λ built. Ok request)) stands

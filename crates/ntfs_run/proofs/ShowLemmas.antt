@@ -1,6 +1,7 @@
 -- What the tools that only show print, of the image that is there or not, and of its volume.
 use Rattle.std.proofs.Common.{◌≡◌, ℕ, Bool, true, false, List, refl, sym, ap, subst, ◌∙◌, arith, Result, Ok, Err, Option, Some, None, IfErr, ok_or}
 use Rattle.std.proofs.lemmas.Result.{IfErr-weaker}
+use Rattle.std.specs.Option.{option_map}
 use Rattle.ntfs_base.specs.Frames.{IsSettled, refused_as, ◌>>=◌}
 use Rattle.ntfs_base.specs.Shelf.{Files, file_of}
 use Rattle.ntfs_base.specs.Sink.{SinkState, after_put}
@@ -20,13 +21,22 @@ use Rattle.ntfs_volume.specs.declared.fault.VolumeFault.TheVariants as volume
 use Rattle.ntfs_words.specs.declared.request.Ask.TheVariants as ask
 use Rattle.ntfs_words.specs.declared.request.Request.{Request}
 use Rattle.ntfs_words.specs.declared.request.Request.TheVariants as request
-use Rattle.ntfs_words.specs.declared.request.Target.TheVariants as target
-use Rattle.ntfs_run.specs.Cat.{CatRefuses}
+use Rattle.ntfs_directory.specs.Paths.{path_of, path_origin}
+use Rattle.ntfs_directory.specs.declared.path_fault.PathFault.{PathFault}
+use Rattle.ntfs_directory.specs.declared.path_fault.PathFault.TheVariants as path
+use Rattle.ntfs_show.specs.Cat.{cat_outcome}
+use Rattle.ntfs_words.specs.declared.request.Target.{Target}
+use Rattle.ntfs_run.specs.Place.{number_at, number_meant}
+use Rattle.ntfs_run.specs.Cat.{CatRefuses, cat_bytes}
 use Rattle.ntfs_run.specs.Cluster.{ClusterRefuses}
-use Rattle.ntfs_run.specs.Info.{GeometryRefuses, image_lines}
-use Rattle.ntfs_run.specs.Outcome.{AttachRefuses, image_status, status_origin, volume_status}
+use Rattle.ntfs_run.specs.Info.{GeometryRefuses, RecordRefuses, image_lines}
+use Rattle.ntfs_run.specs.Outcome.{AttachRefuses, image_status, path_status, show_status, status_origin, volume_status}
 use Rattle.ntfs_run.specs.Show.{ShowRefuses, asks_geometry, image_printing, volume_printing}
-use Rattle.ntfs_run.specs.Shown.{of_file, of_volume, printing_after}
+use Rattle.ntfs_show.specs.RecordInfo.{printing_after}
+use Rattle.ntfs_show.specs.Fault.{show_origin}
+use Rattle.ntfs_show.specs.declared.fault.ShowFault.{ShowFault}
+use Rattle.ntfs_show.specs.declared.fault.ShowFault.TheVariants as show
+use Rattle.ntfs_run.specs.Shown.{of_file, of_volume, with_status}
 use Rattle.ntfs_run.specs.declared.status.Status.{Status}
 use Rattle.ntfs_run.specs.declared.status.Status.TheVariants as status
 use Rattle.ntfs_run.proofs.CatLemmas.{volume-origin}
@@ -41,6 +51,37 @@ prints_none expected fault sink is = record {
   output = λ settled. sym (ap (λ printing. after_put printing.output sink) (is settled) ∙ after_put-nil sink);
   prefix = (0, omega arith, sym (after_put-nil sink));
 }
+
+-- ---- what is printed with refusals of its own
+
+show-origins : (fault : ShowFault) → status_origin (show_status fault) ≡ show_origin fault
+show-origins (show.NotFound what) = refl
+show-origins (show.NotPlain flags) = refl
+show-origins (show.Damaged rule number) = refl
+show-origins show.ReadFault = refl
+show-origins show.WriteFault = refl
+show-origins show.NoMemory = refl
+
+end_err : (o : Option ShowFault) (fault : ShowFault) → Err fault ≡ end_of o → Err (show_status fault) ≡ end_of (option_map show_status o)
+end_err None fault is = absurd cc
+end_err (Some e) fault is = let same : fault ≡ e = cc in ap (λ e. Err (show_status e)) same
+
+end_ok : (o : Option ShowFault) → Ok tt ≡ end_of o → Ok tt ≡ end_of (option_map show_status o)
+end_ok None is = refl
+end_ok (Some e) is = absurd cc
+
+pub prints_err : (printing : Printing ShowFault) (fault : ShowFault) (before after : SinkState) → Prints show_origin printing before (Err fault) after
+    → Prints status_origin (with_status printing) before (Err (show_status fault)) after
+prints_err printing fault before after is = record {
+  answer = λ settled. end_err printing.fault fault (is.answer (subst IsSettled (show-origins fault) settled));
+  output = λ settled. is.output (subst IsSettled (show-origins fault) settled);
+  prefix = is.prefix;
+}
+
+pub prints_ok : (printing : Printing ShowFault) (before after : SinkState) → Prints show_origin printing before (Ok tt) after
+    → Prints status_origin (with_status printing) before (Ok tt) after
+prints_ok printing before after is =
+    record { answer = λ settled. end_ok printing.fault (is.answer tt); output = λ settled. is.output tt; prefix = is.prefix }
 
 -- ---- the image of a name
 
@@ -95,6 +136,12 @@ attach_geometry status.ReadFault is = tt
 attach_geometry status.NoMemory is = tt
 attach_geometry other is = absurd is
 
+attach_record : (fault : Status) → AttachRefuses fault → RecordRefuses fault
+attach_record (status.Absent named.Image) is = tt
+attach_record status.ReadFault is = tt
+attach_record status.NoMemory is = tt
+attach_record other is = absurd is
+
 attach_cat : (fault : Status) → AttachRefuses fault → CatRefuses fault
 attach_cat (status.Absent named.Image) is = tt
 attach_cat status.ReadFault is = tt
@@ -110,9 +157,21 @@ attach_cluster other is = absurd is
 -- of the image
 pub attach_refuses : (r : Request) (fault : Status) → AttachRefuses fault → ShowRefuses r fault
 attach_refuses (request.Info mft None image) fault is = attach_geometry fault is
-attach_refuses (request.Cat (target.Number number) kind name image) fault is = attach_cat fault is
+attach_refuses (request.Info mft (Some number) image) fault is = attach_record fault is
+attach_refuses (request.Cat place kind name image) fault is = attach_cat fault is
 attach_refuses (request.Cluster ask.Info image) fault is = attach_cluster fault is
 attach_refuses other fault is = tt
+
+record_opening : (fault : VolumeFault) → RecordRefuses (volume_status fault)
+record_opening volume.NotNtfs = tt
+record_opening (volume.BadGeometry field value) = tt
+record_opening (volume.ImageShort len need) = tt
+record_opening (volume.Damaged rule number) = tt
+record_opening volume.ReadFault = tt
+record_opening volume.WriteFault = tt
+record_opening volume.NoMemory = tt
+record_opening volume.Absent = tt
+record_opening volume.NoAttribute = tt
 
 cat_opening : (fault : VolumeFault) → CatRefuses (volume_status fault)
 cat_opening volume.NotNtfs = tt
@@ -139,14 +198,16 @@ cluster_opening volume.NoAttribute = tt
 -- of the volume
 pub open_refuses : (r : Request) (fault : VolumeFault) → asks_geometry r ≡ false → ShowRefuses r (volume_status fault)
 open_refuses (request.Info mft None image) fault is = absurd cc
-open_refuses (request.Cat (target.Number number) kind name image) fault is = cat_opening fault
+open_refuses (request.Info mft (Some number) image) fault is = record_opening fault
+open_refuses (request.Cat place kind name image) fault is = cat_opening fault
 open_refuses (request.Cluster ask.Info image) fault is = cluster_opening fault
 open_refuses other fault is = tt
 
 -- of the output
 pub flush_refuses : (r : Request) → ShowRefuses r status.WriteFault
 flush_refuses (request.Info mft None image) = tt
-flush_refuses (request.Cat (target.Number number) kind name image) = tt
+flush_refuses (request.Info mft (Some number) image) = tt
+flush_refuses (request.Cat place kind name image) = tt
 flush_refuses (request.Cluster ask.Info image) = tt
 flush_refuses other = tt
 
@@ -156,3 +217,28 @@ geometry_shows other fault is refused = absurd cc
 
 pub geometry_refuses : (r : Request) (result : Result (Unit {0}) Status) → asks_geometry r ≡ true → IfErr result GeometryRefuses → IfErr result (ShowRefuses r)
 geometry_refuses r result is refused = IfErr-weaker result _ _ (λ fault. geometry_shows r fault is) refused
+
+-- ---- the record that is meant
+
+path-origins : (fault : PathFault) → status_origin (path_status fault) ≡ path_origin fault
+path-origins (path.NotFound what) = refl
+path-origins (path.Damaged rule number) = refl
+path-origins path.ReadFault = refl
+path-origins path.NoMemory = refl
+
+pub unnamed : (path : List ℕ) (volume : Opened) (image : List ℕ) (fault : PathFault)
+    → (IsSettled (path_origin fault) → path_of volume.geometry volume.map image path ≡ Err fault)
+    → IsSettled (status_origin (path_status fault)) → number_at path volume image ≡ Err (path_status fault)
+unfolding number_at
+unnamed path volume image fault is settled =
+    gives_as path_origin status_origin path_status path-origins (path_of volume.geometry volume.map image path) fault is settled
+
+pub unmeant_bytes : (place : Target) (kind : ℕ) (name : List ℕ) (volume : Opened) (image : List ℕ) (fault : Status)
+    → number_meant place volume image ≡ Err fault → cat_bytes place kind name volume image ≡ Err fault
+unfolding cat_bytes
+unmeant_bytes place kind name volume image fault is = ap (λ r. r >>= (λ number. refused_as show_status (cat_outcome volume image number kind name))) is
+
+pub meant_bytes : (place : Target) (kind : ℕ) (name : List ℕ) (volume : Opened) (image : List ℕ) (number : ℕ)
+    → number_meant place volume image ≡ Ok number → cat_bytes place kind name volume image ≡ refused_as show_status (cat_outcome volume image number kind name)
+unfolding cat_bytes
+meant_bytes place kind name volume image number is = ap (λ r. r >>= (λ number. refused_as show_status (cat_outcome volume image number kind name))) is

@@ -1,6 +1,6 @@
 -- What the words of a command line ask of the tools that stand, or how they are refused. The first word names the tool.
 -- The rules are ours.
-use Rattle.std.specs.Prelude.{ℕ, Bool, true, false, List, Option, None, Result, Ok}
+use Rattle.std.specs.Prelude.{ℕ, Bool, true, false, List, Option, Result, Ok}
 use Rattle.std.specs.Option.{ok_or}
 use Rattle.ntfs_base.specs.Frames.{must, ◌>>=◌}
 use Rattle.ntfs_base.specs.declared.refusal.UsageKind.TheVariants as usage
@@ -10,7 +10,6 @@ use Rattle.ntfs_words.specs.Words.{asked}
 use Rattle.ntfs_words.specs.declared.request.Ask.TheVariants as ask
 use Rattle.ntfs_words.specs.declared.request.Request.{Request}
 use Rattle.ntfs_words.specs.declared.request.Request.TheVariants as request
-use Rattle.ntfs_words.specs.declared.request.Target.TheVariants as target
 use Rattle.ntfs_words.specs.declared.request.WordsFault.{WordsFault}
 use Rattle.ntfs_words.specs.declared.request.WordsFault.TheVariants.{Usage}
 use Rattle.ntfs_words.specs.declared.tool.Tool.{Tool}
@@ -35,8 +34,8 @@ tool_in words = only_if is_standing (tool_of words)
 
 -- what the tools that stand do already
 abbrev pub is_built : Request → Bool
-is_built (request.Info mft None image) = true
-is_built (request.Cat (target.Number number) kind name image) = true
+is_built (request.Info mft number image) = true
+is_built (request.Cat place kind name image) = true
 is_built (request.Cluster ask.Info image) = true
 is_built (request.Make file seed clusters cluster) = true
 is_built other = false

@@ -6,6 +6,7 @@ pub use Rattle.ntfs_boot.specs.Geometry
 pub mod Code
 pub mod Outcome
 pub mod Info
+pub mod Place
 pub mod Cat
 pub mod Cluster
 pub mod Shown

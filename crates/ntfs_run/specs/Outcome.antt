@@ -20,6 +20,8 @@ use Rattle.ntfs_boot.specs.declared.volume.ImageFault.TheVariants as image
 use Rattle.ntfs_show.specs.Printing.{Printing, end_of}
 use Rattle.ntfs_show.specs.declared.fault.ShowFault.{ShowFault}
 use Rattle.ntfs_show.specs.declared.fault.ShowFault.TheVariants as show
+use Rattle.ntfs_directory.specs.declared.path_fault.PathFault.{PathFault}
+use Rattle.ntfs_directory.specs.declared.path_fault.PathFault.TheVariants as path
 use Rattle.ntfs_volume.specs.declared.fault.VolumeFault.{VolumeFault}
 use Rattle.ntfs_volume.specs.declared.fault.VolumeFault.TheVariants as volume
 use Rattle.ntfs_words.specs.declared.request.WordsFault.{WordsFault}
@@ -92,6 +94,13 @@ show_status (show.Damaged rule number) = status.Damaged rule number
 show_status show.ReadFault = status.ReadFault
 show_status show.WriteFault = status.WriteFault
 show_status show.NoMemory = status.NoMemory
+
+-- of a path
+abbrev pub path_status : PathFault → Status
+path_status (path.NotFound what) = status.NotFound what
+path_status (path.Damaged rule number) = status.Damaged rule number
+path_status path.ReadFault = status.ReadFault
+path_status path.NoMemory = status.NoMemory
 
 -- of a sink, or of a file that is cut or grows
 abbrev pub put_status : PutFault → Status

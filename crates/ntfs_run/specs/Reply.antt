@@ -14,7 +14,6 @@ use Rattle.ntfs_base.specs.declared.source.Source as source
 use Rattle.ntfs_words.specs.Answers.{CanMisuse}
 use Rattle.ntfs_words.specs.declared.request.Request.{Request}
 use Rattle.ntfs_words.specs.declared.request.Request.TheVariants as request
-use Rattle.ntfs_words.specs.declared.request.Target.TheVariants as target
 use Rattle.ntfs_words.specs.declared.request.WordsFault.{WordsFault}
 use Rattle.ntfs_words.specs.declared.request.WordsFault.TheVariants as words_fault
 use Rattle.ntfs_words.specs.declared.tool.Tool.{Tool}
@@ -73,8 +72,8 @@ KeepsShelf (Err fault) unchanged = unchanged
 
 -- where ntfscat has done its work, it has put exactly the bytes of the record's stream
 abbrev pub PutsIfCat : Result Request WordsFault → Status → Files → SinkState → SinkState → Type 0
-PutsIfCat (Ok (request.Cat (target.Number number) kind name image)) status.Done files old new =
-    PutsStream image number kind (stream_name name) files old new
+PutsIfCat (Ok (request.Cat place kind name image)) status.Done files old new =
+    PutsStream image place kind (stream_name name) files old new
 PutsIfCat reading other files old new = Unit {0}
 
 -- where the work was done, the output stands flushed

@@ -7,10 +7,9 @@ use Rattle.ntfs_volume.specs.Opened.{Opened}
 use Rattle.ntfs_words.specs.declared.request.Ask.TheVariants as ask
 use Rattle.ntfs_words.specs.declared.request.Request.{Request}
 use Rattle.ntfs_words.specs.declared.request.Request.TheVariants as request
-use Rattle.ntfs_words.specs.declared.request.Target.TheVariants as target
 use Rattle.ntfs_run.specs.Cat.{CatRefuses, cat_bytes, stream_name}
 use Rattle.ntfs_run.specs.Cluster.{ClusterRefuses, owner_lines}
-use Rattle.ntfs_run.specs.Info.{GeometryRefuses, image_lines}
+use Rattle.ntfs_run.specs.Info.{GeometryRefuses, RecordRefuses, image_lines, record_lines}
 use Rattle.ntfs_run.specs.Shown.{of_volume}
 use Rattle.ntfs_run.specs.declared.status.Status.{Status}
 use Rattle.ntfs_run.specs.declared.status.Status.TheVariants as status
@@ -20,10 +19,18 @@ abbrev pub asks_geometry : Request → Bool
 asks_geometry (request.Info mft None image) = true
 asks_geometry other = false
 
+-- the requests that print
+abbrev pub is_shown : Request → Bool
+is_shown (request.Info mft number image) = true
+is_shown (request.Cat place kind name image) = true
+is_shown (request.Cluster ask.Info image) = true
+is_shown other = false
+
 -- what is printed of an opened volume, whose image has these bytes. No other request is taken
 unfoldable pub volume_printing : Request → Opened → List ℕ → Printing Status
-volume_printing (request.Cat (target.Number number) kind name image) volume bytes =
-    printing_of (cat_bytes number kind (stream_name name) volume bytes)
+volume_printing (request.Info mft (Some number) image) volume bytes = record_lines number volume bytes
+volume_printing (request.Cat place kind name image) volume bytes =
+    printing_of (cat_bytes place kind (stream_name name) volume bytes)
 volume_printing (request.Cluster ask.Info image) volume bytes = printing_of (owner_lines owner_query.Info volume bytes)
 volume_printing other volume bytes = stops (status.Usage usage.Tool)
 
@@ -36,6 +43,7 @@ image_printing request bytes =
 -- the refusals of the requests that are taken
 abbrev pub ShowRefuses : Request → Status → Type 0
 ShowRefuses (request.Info mft None image) fault = GeometryRefuses fault
-ShowRefuses (request.Cat (target.Number number) kind name image) fault = CatRefuses fault
+ShowRefuses (request.Info mft (Some number) image) fault = RecordRefuses fault
+ShowRefuses (request.Cat place kind name image) fault = CatRefuses fault
 ShowRefuses (request.Cluster ask.Info image) fault = ClusterRefuses fault
 ShowRefuses other fault = Unit {0}

@@ -1,21 +1,17 @@
 -- What is printed of an image: of the file of a name, of the volume that it holds, and with refusals as statuses. The
 -- words are ours.
-use Rattle.std.specs.Prelude.{ℕ, List, Result, Ok, Err}
+use Rattle.std.specs.Prelude.{ℕ, List}
 use Rattle.std.specs.Option.{ok_or, option_map}
 use Rattle.ntfs_base.specs.Frames.{refused_as}
 use Rattle.ntfs_base.specs.Shelf.{Files, file_of}
 use Rattle.ntfs_base.specs.declared.refusal.Named.TheVariants as named
-use Rattle.ntfs_show.specs.Printing.{Printing, stops}
+use Rattle.ntfs_show.specs.Printing.{Printing}
+use Rattle.ntfs_show.specs.RecordInfo.{printing_after}
 use Rattle.ntfs_show.specs.declared.fault.ShowFault.{ShowFault}
 use Rattle.ntfs_volume.specs.Opened.{Opened, opened_of}
 use Rattle.ntfs_run.specs.Outcome.{show_status, volume_status}
 use Rattle.ntfs_run.specs.declared.status.Status.{Status}
 use Rattle.ntfs_run.specs.declared.status.Status.TheVariants as status
-
--- what is printed of a value, or nothing but the refusal to give it
-abbrev pub printing_after : {A E : Type 0} → Result A E → (A → Printing E) → Printing E
-printing_after (Ok x) printing = printing x
-printing_after (Err fault) printing = stops fault
 
 -- of the image of a name, where it is there
 abbrev pub of_file : List ℕ → Files → (List ℕ → Printing Status) → Printing Status

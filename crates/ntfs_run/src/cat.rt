@@ -1,22 +1,24 @@
 //! `ntfscat`.
 ghost use Rattle.std.specs.Prelude.{◌≡◌, IfErr, IfOk};
-ghost use Rattle.ntfs_base.specs.Frames.{Copies, IfTold, Puts};
+ghost use Rattle.ntfs_base.specs.Frames.{Copies, IfTold, Puts, refused_as};
+ghost use Rattle.ntfs_show.specs.Cat.{cat_outcome};
 ghost use Rattle.ntfs_volume.specs.Opened.{HasClusters};
 ghost use Rattle.ntfs_run.specs.Cat.{CatRefuses, cat_bytes, stream_name};
-ghost use Rattle.ntfs_run.specs.Outcome.{status_origin};
+ghost use Rattle.ntfs_run.specs.Outcome.{show_status, status_origin};
 
+use crate::place::number_meant;
 use crate::status::Status;
 use ntfs_base::{Image, Sink};
 use ntfs_show::cat_stream;
 use ntfs_upcase::units_of;
 use ntfs_volume::Table;
-use ntfs_words::Text;
+use ntfs_words::{Target, Text};
 use std::alloc::{AllocError, Global};
 
-/// A stream: the number of its record, its type, and its name where it has one.
+/// A stream: its record, its type, and its name where it has one.
 #[derive(Clone, Copy)]
 pub struct StreamRequest<'a> {
-    pub number: u64,
+    pub target: &'a Target,
     pub kind: u32,
     pub name: &'a Option<Text>,
 }
@@ -32,13 +34,33 @@ pub fn put_stream<G: Image, O: Sink>(
 ) -> Result<(), Status>
     requires { HasClusters (G.seen image.old).size table.now }
     ensures puts { IfTold G.Image image.old (λ content. Puts status_origin
-        (cat_bytes stream.now.number stream.now.kind (stream_name stream.now.name.now) table.now content)
+        (cat_bytes stream.now.target.now stream.now.kind (stream_name stream.now.name.now) table.now content)
         (O.seen out.old) result (O.seen out.new)) }
     ensures copies { Copies G.Image O.Sink status_origin image.old image.new out.old out.new result }
     ensures refusal { IfErr result CatRefuses }
 {
+    let number = number_meant(alloc, stream.target, image, table)?;
+    put_numbered(alloc, number, stream, image, table, out)
+}
+
+/// Puts a stream of the record of this number.
+fn put_numbered<G: Image, O: Sink>(
+    alloc: Global,
+    number: u64,
+    stream: &StreamRequest,
+    image: &mut G,
+    table: &Table,
+    out: &mut O,
+) -> Result<(), Status>
+    requires { HasClusters (G.seen image.old).size table.now }
+    ensures puts { IfTold G.Image image.old (λ content. Puts status_origin (refused_as show_status
+        (cat_outcome table.now content number stream.now.kind (stream_name stream.now.name.now))) (O.seen out.old) result
+        (O.seen out.new)) }
+    ensures copies { Copies G.Image O.Sink status_origin image.old image.new out.old out.new result }
+    ensures refusal { IfErr result CatRefuses }
+{
     let name = stream_name(alloc, stream.name)?;
-    cat_stream(alloc, image, table, stream.number, stream.kind, &name, out)?;
+    cat_stream(alloc, image, table, number, stream.kind, &name, out)?;
     Ok(())
 }
 

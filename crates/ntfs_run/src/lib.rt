@@ -9,6 +9,7 @@ mod info;
 mod make;
 mod message;
 mod outside;
+mod place;
 mod request;
 mod show;
 mod status;

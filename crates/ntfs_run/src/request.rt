@@ -5,7 +5,7 @@ ghost use Rattle.ntfs_words.specs.Line.{Reads};
 ghost use Rattle.ntfs_run.specs.Command.{is_built, is_standing, request_in, tool_in};
 
 use ntfs_base::UsageKind;
-use ntfs_words::{Ask, Request, Target, Tool, WordsFault, read_words, tool_of};
+use ntfs_words::{Ask, Request, Tool, WordsFault, read_words, tool_of};
 use std::alloc::Global;
 
 /// The tool that the first word names, of those that stand.
@@ -39,11 +39,8 @@ fn is_built(request: &Request) -> bool
     ensures { result ≡ is_built request.now }
 {
     match request {
-        Request::Info { number: None, .. } => true,
-        Request::Cat {
-            target: Target::Number { .. },
-            ..
-        } => true,
+        Request::Info { .. } => true,
+        Request::Cat { .. } => true,
         Request::Cluster { ask: Ask::Info, .. } => true,
         Request::Make { .. } => true,
         _ => false,

@@ -4,18 +4,18 @@ ghost use Rattle.ntfs_base.specs.Frames.{Copies, IfFiles, IfTold};
 ghost use Rattle.ntfs_show.specs.Printing.{Prints};
 ghost use Rattle.ntfs_volume.specs.Opened.{HasClusters};
 ghost use Rattle.ntfs_run.specs.Outcome.{OnlyShows, status_origin};
-ghost use Rattle.ntfs_run.specs.Show.{ShowRefuses, asks_geometry, image_printing, volume_printing};
+ghost use Rattle.ntfs_run.specs.Show.{ShowRefuses, asks_geometry, is_shown, image_printing, volume_printing};
 ghost use Rattle.ntfs_run.specs.Shown.{of_file, of_volume};
 
 use crate::cat::{StreamRequest, put_stream};
 use crate::cluster::print_owners;
-use crate::info::print_geometry;
+use crate::info::{print_geometry, print_record};
 use crate::outside::{attach_image, flush};
 use crate::status::Status;
 use ntfs_base::{Image, Shelf, Sink, UsageKind};
 use ntfs_show::OwnerQuery;
 use ntfs_volume::{Table, read_table};
-use ntfs_words::{Ask, Request, Target};
+use ntfs_words::{Ask, Request};
 use std::alloc::Global;
 
 /// Prints what a request asks about the image of a name, and flushes the output.
@@ -26,7 +26,8 @@ pub fn show<S: Shelf, O: Sink>(
     shelf: &mut S,
     out: &mut O,
 ) -> Result<(), Status>
-    requires { (S.seen shelf.old).attached ≡ [] }
+    requires attached { (S.seen shelf.old).attached ≡ [] }
+    requires shown { is_shown request.now ≡ true }
     ensures prints { IfFiles S.Shelf shelf.old (λ files. Prints status_origin
         (of_file name.now files (image_printing request.now)) (O.seen out.old) result (O.seen out.new)) }
     ensures shows { OnlyShows S.Shelf O.Sink (ShowRefuses request.now) shelf.old shelf.new out.old out.new result }
@@ -44,6 +45,7 @@ fn show_image<G: Image, O: Sink>(
     image: &mut G,
     out: &mut O,
 ) -> Result<(), Status>
+    requires shown { is_shown request.now ≡ true }
     ensures prints { IfTold G.Image image.old (λ content.
         Prints status_origin (image_printing request.now content) (O.seen out.old) result (O.seen out.new)) }
     ensures copies { Copies G.Image O.Sink status_origin image.old image.new out.old out.new result }
@@ -74,7 +76,8 @@ fn show_volume<G: Image, O: Sink>(
     image: &mut G,
     out: &mut O,
 ) -> Result<(), Status>
-    requires { asks_geometry request.now ≡ false }
+    requires shown { is_shown request.now ≡ true }
+    requires asked { asks_geometry request.now ≡ false }
     ensures prints { IfTold G.Image image.old (λ content. Prints status_origin
         (of_volume content (λ volume. volume_printing request.now volume content)) (O.seen out.old) result
         (O.seen out.new)) }
@@ -95,6 +98,7 @@ fn show_opened<G: Image, O: Sink>(
     out: &mut O,
 ) -> Result<(), Status>
     requires held { HasClusters (G.seen image.old).size table.now }
+    requires shown { is_shown request.now ≡ true }
     requires asked { asks_geometry request.now ≡ false }
     ensures prints { IfTold G.Image image.old (λ content. Prints status_origin
         (volume_printing request.now table.now content) (O.seen out.old) result (O.seen out.new)) }
@@ -116,6 +120,7 @@ fn print_asked<G: Image, O: Sink>(
     out: &mut O,
 ) -> Result<(), Status>
     requires held { HasClusters (G.seen image.old).size table.now }
+    requires shown { is_shown request.now ≡ true }
     requires asked { asks_geometry request.now ≡ false }
     ensures prints { IfTold G.Image image.old (λ content. Prints status_origin
         (volume_printing request.now table.now content) (O.seen out.old) result (O.seen out.new)) }
@@ -123,14 +128,18 @@ fn print_asked<G: Image, O: Sink>(
     ensures refusal { IfErr result (ShowRefuses request.now) }
 {
     match request {
+        Request::Info {
+            number: Some(number),
+            ..
+        } => print_record(alloc, *number, image, table, out),
         Request::Cat {
-            target: Target::Number { number },
+            target,
             kind,
             name,
             ..
         } => {
             let stream = StreamRequest {
-                number: *number,
+                target,
                 kind: *kind,
                 name,
             };

@@ -1,5 +1,6 @@
 use ntfs_base::{Lack, Missing, Named, PutFault, Rule, UsageKind};
 use ntfs_boot::ImageFault;
+use ntfs_directory::PathFault;
 use ntfs_make::MakeFault;
 use ntfs_show::ShowFault;
 use ntfs_volume::VolumeFault;
@@ -165,6 +166,22 @@ impl From<ShowFault> for Status {
             ShowFault::ReadFault => Status::ReadFault,
             ShowFault::WriteFault => Status::WriteFault,
             ShowFault::NoMemory => Status::NoMemory,
+        }
+    }
+}
+
+impl From<PathFault> for Status {
+    ghost use Rattle.std.specs.Prelude.{◌≡◌};
+    ghost use Rattle.ntfs_run.specs.Outcome.{path_status};
+
+    ghost from_gives = { λ fault status. status ≡ path_status fault };
+
+    fn from(fault: PathFault) -> Status {
+        match fault {
+            PathFault::NotFound { what } => Status::NotFound { what },
+            PathFault::Damaged { rule, number } => Status::Damaged { rule, number },
+            PathFault::ReadFault => Status::ReadFault,
+            PathFault::NoMemory => Status::NoMemory,
         }
     }
 }

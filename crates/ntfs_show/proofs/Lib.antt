@@ -4,3 +4,5 @@ pub mod CatLemmas
 pub mod CoverLemmas
 pub mod SlotLemmas
 pub mod OwnersLemmas
+pub mod PendingLemmas
+pub mod RecordInfoLemmas

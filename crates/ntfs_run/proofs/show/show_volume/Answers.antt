@@ -16,7 +16,7 @@ returns-in_err-table-clause-prints g c told =
 pub returns-in_err-table-clause-refusal : goal.returns-in_err-table-clause-refusal
 returns-in_err-table-clause-refusal g c =
     let p = err_from_is_err_and c.from_residual.result c.from_residual.ensures.1 in
-    rw (p.1, p.2) (open_refuses c.args.request.now c.in_err-table.field-0.0 c.requires)
+    rw (p.1, p.2) (open_refuses c.args.request.now c.in_err-table.field-0.0 c.requires.asked)
 
 pub returns-clause-prints : goal.returns-clause-prints
 returns-clause-prints g c told =
