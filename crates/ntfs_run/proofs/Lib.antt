@@ -1,6 +1,5 @@
 pub mod MessageLemmas
 pub mod RangeLemmas
-pub mod RequestLemmas
 pub mod ToolLemmas
 pub mod MakeLemmas
 pub mod CatLemmas

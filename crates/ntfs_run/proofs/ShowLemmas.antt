@@ -21,16 +21,13 @@ use Rattle.ntfs_volume.specs.declared.fault.VolumeFault.TheVariants as volume
 use Rattle.ntfs_words.specs.declared.request.Ask.TheVariants as ask
 use Rattle.ntfs_words.specs.declared.request.Request.{Request}
 use Rattle.ntfs_words.specs.declared.request.Request.TheVariants as request
-use Rattle.ntfs_directory.specs.Paths.{path_of, path_origin}
-use Rattle.ntfs_directory.specs.declared.path_fault.PathFault.{PathFault}
-use Rattle.ntfs_directory.specs.declared.path_fault.PathFault.TheVariants as path
 use Rattle.ntfs_show.specs.Cat.{cat_outcome}
 use Rattle.ntfs_words.specs.declared.request.Target.{Target}
-use Rattle.ntfs_run.specs.Place.{number_at, number_meant}
+use Rattle.ntfs_run.specs.Place.{number_meant}
 use Rattle.ntfs_run.specs.Cat.{CatRefuses, cat_bytes}
 use Rattle.ntfs_run.specs.Cluster.{ClusterRefuses}
 use Rattle.ntfs_run.specs.Info.{GeometryRefuses, RecordRefuses, image_lines}
-use Rattle.ntfs_run.specs.Outcome.{AttachRefuses, image_status, path_status, show_status, status_origin, volume_status}
+use Rattle.ntfs_run.specs.Outcome.{AttachRefuses, image_status, show_status, status_origin, volume_status}
 use Rattle.ntfs_run.specs.Show.{ShowRefuses, asks_geometry, image_printing, volume_printing}
 use Rattle.ntfs_show.specs.RecordInfo.{printing_after}
 use Rattle.ntfs_show.specs.Fault.{show_origin}
@@ -219,19 +216,6 @@ pub geometry_refuses : (r : Request) (result : Result (Unit {0}) Status) → ask
 geometry_refuses r result is refused = IfErr-weaker result _ _ (λ fault. geometry_shows r fault is) refused
 
 -- ---- the record that is meant
-
-path-origins : (fault : PathFault) → status_origin (path_status fault) ≡ path_origin fault
-path-origins (path.NotFound what) = refl
-path-origins (path.Damaged rule number) = refl
-path-origins path.ReadFault = refl
-path-origins path.NoMemory = refl
-
-pub unnamed : (path : List ℕ) (volume : Opened) (image : List ℕ) (fault : PathFault)
-    → (IsSettled (path_origin fault) → path_of volume.geometry volume.map image path ≡ Err fault)
-    → IsSettled (status_origin (path_status fault)) → number_at path volume image ≡ Err (path_status fault)
-unfolding number_at
-unnamed path volume image fault is settled =
-    gives_as path_origin status_origin path_status path-origins (path_of volume.geometry volume.map image path) fault is settled
 
 pub unmeant_bytes : (place : Target) (kind : ℕ) (name : List ℕ) (volume : Opened) (image : List ℕ) (fault : Status)
     → number_meant place volume image ≡ Err fault → cat_bytes place kind name volume image ≡ Err fault

@@ -1,7 +1,7 @@
 //! Words of command lines in all their spellings, through `run`.
 use crate::case::{Case, Image, NO_FAULT, all_answer, all_follow, run_over};
 use crate::info::{INFO, LINES};
-use crate::statuses::{COMBINATION, LINE, NO_IMAGE, NUMBER, TOOL};
+use crate::statuses::{COMBINATION, LINE, NO_IMAGE, NUMBER, TOOL, not_plain};
 use crate::volume::{BOOT, BOOT_LEN, image_of};
 use ntfs_base::{MemShelf, Missing};
 use ntfs_run::Status;
@@ -123,6 +123,12 @@ fn ten_thousand_words_are_refused(rt: HostRuntime) -> Result<(), Fail> {
     Ok(())
 }
 
+fn no_part(index: u64) -> Status {
+    Status::NotFound {
+        what: Missing::Part { index },
+    }
+}
+
 const NO_STREAM: Status = Status::NotFound {
     what: Missing::Stream,
 };
@@ -164,6 +170,59 @@ fn ntfscat_puts_streams_of_types_and_names(rt: HostRuntime) -> Result<(), Fail> 
         none.with_words(&["ntfscat", "-i", "5", "-a", "0xB0", "-n", "$I3", "v"]),
         none.with_words(&["ntfscat", "-i", "5", "-n", "$I30", "v"]),
         none.with_words(&["ntfscat", "-i", "16", "-n", "\u{1F600}", "v"]),
+    ];
+    all_follow(&rt, alloc, &mut shelf, &cases)
+}
+
+/// Parts of a path are looked up one by one; an empty path is the root.
+#[test]
+fn ntfscat_takes_paths(rt: HostRuntime) -> Result<(), Fail> {
+    let alloc = rt.alloc();
+    let mut shelf = MemShelf::new(alloc);
+    let empty = Image::of(0);
+    let hello = Case::puts(&[], empty, b"hello, ntfs\n");
+    let nothing = hello.with_output(b"");
+    let missing = Case::refuses(&[], empty, no_part(0), 7, "ntfscat: not found: path part 0\n");
+    let below = missing.with_refusal(no_part(1), "ntfscat: not found: path part 1\n");
+    let no_stream = missing.with_refusal(NO_STREAM, "ntfscat: not found: stream\n");
+    let cases = [
+        Case::puts(&["ntfsmake", "v", "0", "1024", "4096"], empty, b""),
+        hello.with_words(&["ntfscat", "v", "/resident.txt"]),
+        hello.with_words(&["ntfscat", "v", "resident.txt"]),
+        hello.with_words(&["ntfscat", "v", "//resident.txt/"]),
+        hello.with_words(&["ntfscat", "v", "RESIDENT.txt"]),
+        hello.with_output(FILE_NAME).with_words(&["ntfscat", "-a", "0x30", "v", "/resident.txt"]),
+        hello.with_output(BLOCKS).with_words(&["ntfscat", "-a", "0xB0", "-n", "$I30", "v", "/"]),
+        nothing.with_words(&["ntfscat", "v", "/empty.bin"]),
+        nothing.with_words(&["ntfscat", "v", "/long name.txt"]),
+        nothing.with_words(&["ntfscat", "v", "/longna~1.txt"]),
+        hello.with_output(b"inner\n").with_words(&["ntfscat", "v", "/Dir/inner.txt"]),
+        hello.with_output(b"A\n").with_words(&["ntfscat", "v", "/A.txt"]),
+        hello.with_output(b"a\n").with_words(&["ntfscat", "v", "/a.txt"]),
+        missing.with_words(&["ntfscat", "v", "/none"]),
+        missing.with_words(&["ntfscat", "v", "none/resident.txt"]),
+        below.with_words(&["ntfscat", "v", "/Dir/none"]),
+        below.with_words(&["ntfscat", "v", "/resident.txt/none"]),
+        no_stream.with_words(&["ntfscat", "v", ""]),
+        no_stream.with_words(&["ntfscat", "v", "/resident.txt", "-n", "hello"]),
+    ];
+    all_follow(&rt, alloc, &mut shelf, &cases)
+}
+
+#[test]
+fn ntfscat_refuses_a_compressed_stream_by_its_path(rt: HostRuntime) -> Result<(), Fail> {
+    let alloc = rt.alloc();
+    let mut shelf = MemShelf::new(alloc);
+    let empty = Image::of(0);
+    let cases = [
+        Case::puts(&["ntfsmake", "v", "0", "1024", "4096"], empty, b""),
+        Case::refuses(
+            &["ntfscat", "v", "/packed.bin"],
+            empty,
+            not_plain(1),
+            8,
+            "ntfscat: stream is not plain: flags 0x0001\n",
+        ),
     ];
     all_follow(&rt, alloc, &mut shelf, &cases)
 }
