@@ -1,8 +1,8 @@
 use Rattle.std.proofs.lemmas.Result.{err_from_is_err_and}
 use Rattle.ntfs_base.proofs.FramesLemmas.{puts_none}
 use Rattle.ntfs_run.specs.Outcome.{status_origin}
-use Rattle.ntfs_run.proofs.InfoLemmas.{lines_refused}
-use Rattle.ntfs_run.proofs.info.show_geometry.Goals as goal
+use Rattle.ntfs_run.proofs.ShowLemmas.{lines_refused}
+use Rattle.ntfs_run.proofs.info.print_geometry.Goals as goal
 
 pub returns-in_err-geometry-clause-puts : goal.returns-in_err-geometry-clause-puts
 returns-in_err-geometry-clause-puts g c told =
