@@ -1,4 +1,5 @@
-use Rattle.std.proofs.Common.{Ok, ap, refl, ◌∙◌}
+use Rattle.std.proofs.Common.{◌≡◌, Ok, refl, rules}
+use Rattle.ntfs_words.specs.declared.request.Request.TheVariants as request
 use Rattle.ntfs_run.proofs.RangeLemmas.{made_shape}
 use Rattle.ntfs_run.proofs.ToolLemmas.{does_refused}
 use Rattle.ntfs_run.proofs.command.answer.Goals as goal
@@ -7,4 +8,6 @@ pub returns-in-Err-clause-does : goal.returns-in-Err-clause-does
 returns-in-Err-clause-does g c told = rw (c.in-Err.is, c.from.ensures) (does_refused _ _ _ _ _ _ refl refl (λ settled. refl))
 
 pub make_file-requires-clause-shape : goal.make_file-requires-clause-shape
-make_file-requires-clause-shape g c = made_shape c.args.request.now _ _ _ _ c.requires.ranges (c.in-Ok-Make.is ∙ ap Ok c.in-Ok-Make.field-0-is)
+make_file-requires-clause-shape g c =
+    let is : c.args.request.now ≡ Ok (request.Make c.in-Ok-Make.file c.in-Ok-Make.seed c.in-Ok-Make.clusters c.in-Ok-Make.cluster) = search rules in
+    made_shape c.args.request.now _ _ _ _ c.requires.ranges is
