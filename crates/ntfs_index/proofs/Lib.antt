@@ -6,3 +6,4 @@ pub mod TreeLemmas
 pub mod AlikeLemmas
 pub mod PathLemmas
 pub mod WalkStateLemmas
+pub mod MostLemmas

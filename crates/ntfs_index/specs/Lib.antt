@@ -11,3 +11,4 @@ pub mod State
 pub mod Sized
 pub mod MemBlocks
 pub mod Laws
+pub mod Most

@@ -4,6 +4,7 @@ use Rattle.std.specs.Prelude.{◌≡◌, ℕ, List, [], Option, Some, None, Resu
 use Rattle.ntfs_base.specs.Frames.{IsSettled}
 use Rattle.ntfs_index.specs.Blocks.{BlockMap}
 use Rattle.ntfs_index.specs.Fetches.{index_origin}
+use Rattle.ntfs_index.specs.Most.{most_left}
 use Rattle.ntfs_index.specs.Node.{Visit}
 use Rattle.ntfs_index.specs.Walk.{Listing, before, listing}
 use Rattle.ntfs_index.specs.Path.{left_of_nodes, nothing, only_fault}
@@ -26,6 +27,16 @@ pub record WalkState : Type 0 where
 -- what is left of the walk over these blocks
 abbrev pub left : WalkState → BlockMap → Listing
 left state blocks = listing (left_of_nodes blocks state.present state.above state.met)
+
+-- how many entries the walk can still give at most, over whatever blocks: the measure of a loop to its end
+abbrev pub entries_most : WalkState → ℕ
+entries_most state = most_left state.present state.above state.met
+
+-- where an entry is given
+abbrev pub IfGiven : {E : Type 0} → Result (Option Entry) E → Type 0 → Type 0
+IfGiven (Ok (Some entry)) is = is
+IfGiven (Ok None) is = Unit {0}
+IfGiven (Err fault) is = Unit {0}
 
 -- a walk over blocks of this size has met no block, shown no key and answered no fault
 pub record IsBegun (size : ℕ) (state : WalkState) : Type 0 where

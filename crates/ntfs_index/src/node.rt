@@ -69,6 +69,7 @@ fn open_at(vcn: u64, mut bytes: Vec<u8>, header: usize) -> Result<OpenNode, Inde
     ensures exact { MatchResult result (λ node. spec.entries_at vcn header bytes.items ≡ Ok (entry_at node))
         (λ fault. spec.entries_at vcn header bytes.items ≡ Err fault) }
     ensures first { IfOk result (IsFirst vcn) }
+    ensures most { IfOk result (λ node. length node.bytes.items ≤ length bytes.items) }
 {
     if !has_right_header(header, &bytes) {
         return Err(IndexFault::BadNode { vcn, rule: 3 });
@@ -117,6 +118,7 @@ pub(crate) fn open_block(vcn: u64, mut raw: Vec<u8>) -> Result<OpenNode, IndexFa
     ensures exact { MatchResult result (λ node. spec.raw_node vcn (Some raw.items) ≡ Ok (entry_at node))
         (λ fault. spec.raw_node vcn (Some raw.items) ≡ Err fault) }
     ensures first { IfOk result (IsFirst vcn) }
+    ensures most { IfOk result (λ node. length node.bytes.items ≤ length raw.items) }
 {
     if unfix(&mut raw, Magic::Indx).is_err() {
         return Err(IndexFault::BadNode { vcn, rule: 1 });

@@ -4,6 +4,7 @@ ghost use Rattle.std.specs.Prelude.{◌≡◌, ◌+◌, ◌-◌, ◌<◌, ◌≤
 ghost use Rattle.ntfs_base.specs.Frames.{Gives, IsSettled};
 ghost use Rattle.ntfs_index.specs.Blocks.{IsBlockSize};
 ghost use Rattle.ntfs_index.specs.Fetches.{IfBlocks, OnlyFetches, index_origin};
+ghost use Rattle.ntfs_index.specs.Most.{IfGave, path_most};
 ghost use Rattle.ntfs_index.specs.Node.{block_node};
 ghost use Rattle.ntfs_index.specs.Path.{IsAtRoot, IsDown, IsEntered, IsFirst, IsPath, HasMoved, IsTurn, IsUp, KeepsKey, asks_left, entry_at};
 
@@ -58,6 +59,7 @@ fn fetch<B: Blocks>(
     requires blocks { (B.seen blocks.old).size ≡ size }
     ensures told { IfBlocks B.Blocks blocks.old (λ map. Gives index_origin entry_at (block_node map vcn) result) }
     ensures first { IfOk result (IsFirst vcn) }
+    ensures small { IfOk result (λ node. length node.bytes.items ≤ 65536) }
     ensures fetches { OnlyFetches B.Blocks index_origin 1 blocks.old blocks.new result }
 {
     let mut raw = zeros(alloc, size as usize)?;
@@ -94,6 +96,7 @@ impl Path {
         ensures told { IfBlocks B.Blocks blocks.old (λ map. IsEntered map vcn self.old result self.new) }
         ensures path { IsPath self.new }
         ensures down { OnOk result (IsDown self.old self.new) }
+        ensures most { path_most self.new ≤ path_most self.old }
         ensures one { B.asked blocks.new ≤ B.asked blocks.old + 1 }
         ensures once { B.asked blocks.new + length self.old.met.keys ≤ B.asked blocks.old + length self.new.met.keys }
         ensures fetches { OnlyFetches B.Blocks index_origin (asks_left self.old) blocks.old blocks.new result }
@@ -104,6 +107,8 @@ impl Path {
         if !self.met.insert(vcn)? {
             return Err(IndexFault::BadNode { vcn, rule: 6 });
         }
+        let met = self.met.len();
+        prove!(met < 1 << 63);
         let child = fetch(alloc, size, blocks, vcn)?;
         let mut parent = mem::replace(&mut self.present, child);
         parent.entered = true;
@@ -118,6 +123,7 @@ impl Path {
         ensures up { result ≡ true → IsUp self.old self.new }
         ensures root { result ≡ false → IsAtRoot self.old self.new }
         ensures met { self.new.met ≡ self.old.met }
+        ensures most { path_most self.new ≤ path_most self.old }
     {
         match self.above.pop() {
             Some(parent) => {
@@ -142,6 +148,8 @@ impl Path {
         ensures told { IfBlocks B.Blocks blocks.old (λ map. IsTurn map self.old result self.new key.new.items) }
         ensures path { IsPath self.new }
         ensures moves { HasMoved result self.old self.new (B.asked blocks.old) (B.asked blocks.new) }
+        ensures most { path_most self.new ≤ path_most self.old }
+        ensures fewer { IfGave result (path_most self.new < path_most self.old) }
         ensures key { KeepsKey result key.old.items key.new.items }
         ensures once { B.asked blocks.new + length self.old.met.keys ≤ B.asked blocks.old + length self.new.met.keys }
         ensures fetches { OnlyFetches B.Blocks index_origin (asks_left self.old) blocks.old blocks.new result }

@@ -1,12 +1,13 @@
 //! The walk: what a caller sees of it.
 
-ghost use Rattle.std.specs.Prelude.{◌≡◌, ◌+◌, ◌≤◌, ℕ, None, Some, Err, length, IfOk, IfErr, OnOk, IsOk};
+ghost use Rattle.std.specs.Prelude.{◌≡◌, ◌+◌, ◌<◌, ◌≤◌, ℕ, None, Some, Err, length, IfOk, IfErr, OnOk, IsOk};
 ghost use Rattle.ntfs_base.specs.Frames.{IsJudged, IsSettled};
 ghost use Rattle.ntfs_index.specs.Blocks.{BlockMap, IsBlockSize};
 ghost use Rattle.ntfs_index.specs.Fetches.{IfBlocks, OnlyFetches, index_origin};
+ghost use Rattle.ntfs_index.specs.Most.{path_most};
 ghost use Rattle.ntfs_index.specs.Node.{root_node};
 ghost use Rattle.ntfs_index.specs.Path.{IsPath, asks_left, left_of_path};
-ghost use Rattle.ntfs_index.specs.State.{IsBegun, IsNext, ShowsKey, left};
+ghost use Rattle.ntfs_index.specs.State.{IfGiven, IsBegun, IsNext, ShowsKey, entries_most, left};
 ghost use Rattle.ntfs_index.specs.Walk.{listing, walk};
 ghost use Rattle.ntfs_index.specs.declared.fault.IndexFault.{IndexFault};
 
@@ -93,6 +94,8 @@ fn advance<B: Blocks>(
         IsNext (left_of_path map path.old) result (left_of_path map path.new) key.new.items) }
     ensures path { IsPath path.new }
     ensures key { ShowsKey result key.old.items key.new.items }
+    ensures fewer { IfGiven result (path_most path.new < path_most path.old) }
+    ensures most { path_most path.new ≤ path_most path.old }
     ensures once { B.asked blocks.new + length path.old.met.keys ≤ B.asked blocks.old + length path.new.met.keys }
     ensures fetches { OnlyFetches B.Blocks index_origin (asks_left path.old) blocks.old blocks.new result }
 {
@@ -109,7 +112,7 @@ impl Walk {
     /// The next entry, or `None` where the walk is whole. After a fault it answers that fault again.
     ///
     /// What it gives is the walk where all calls had blocks with one and the same map. It asks for 15 blocks at most,
-    /// and for no block twice.
+    /// and for no block twice. With each entry the number that can follow at most falls, over whatever blocks.
     pub fn next<B: Blocks>(&mut self, blocks: &mut B) -> Result<Option<Entry>, IndexFault>
         requires { (B.seen blocks.old).size ≡ self.old.size }
         ensures told { self.old.fault ≡ None → IfBlocks B.Blocks blocks.old (λ map.
@@ -121,6 +124,8 @@ impl Walk {
         ensures faulted { IfErr result (λ fault. self.new.fault ≡ Some fault) }
         ensures sound { OnOk result (self.new.fault ≡ None) }
         ensures key { ShowsKey result self.old.key self.new.key }
+        ensures fewer { IfGiven result (entries_most self.new < entries_most self.old) }
+        ensures no_more { entries_most self.new ≤ entries_most self.old }
         ensures size { self.new.size ≡ self.old.size }
         ensures few { length self.new.above ≤ 15 }
     {

@@ -17,5 +17,6 @@ turns-preserved g c =
       faults = omega (arith, turned.fetches.counts, c.turns.invariant.faults);
       asks = omega (arith, moves.1, c.turns.invariant.asks);
       once = omega (arith, turned.once, c.turns.invariant.once);
+      most = omega (arith, turned.most, c.turns.invariant.most);
       key = shown ∙ c.turns.invariant.key;
     }

@@ -1,5 +1,6 @@
 use Rattle.std.proofs.Common.{◌≡◌, ◌+◌, ◌≤◌, length}
 use Rattle.ntfs_index.specs.Fetches.{IfBlocks}
+use Rattle.ntfs_index.specs.Most.{path_most}
 use Rattle.ntfs_index.specs.Path.{IsPath, asks_left, left_of_path, turns_left}
 use Rattle.ntfs_index.proofs.walk.advance.Given as goal
 
@@ -12,6 +13,7 @@ invariant-turns g l = record {
   asks : g.B.Blocks.asked l.blocks + asks_left l.path ≤ g.B.Blocks.asked l.initial.blocks + asks_left l.initial.path;
   once : g.B.Blocks.asked l.blocks + length l.initial.path.met.keys
       ≤ g.B.Blocks.asked l.initial.blocks + length l.path.met.keys;
+  most : path_most l.path ≤ path_most l.initial.path;
   key : l.key.items ≡ l.initial.key.items;
 }
 

@@ -1,7 +1,9 @@
-use Rattle.std.proofs.Common.{◌<◌, ◌-◌, length, refl, ap, arith}
+use Rattle.std.proofs.Common.{◌≡◌, ◌<◌, ◌≤◌, ◌-◌, false, length, map, refl, ap, arith}
 use Rattle.std.proofs.lemmas.Result.{err_from_is_err_and}
 use Rattle.ntfs_index.specs.Walk.{listing}
+use Rattle.ntfs_index.specs.Path.{left_in}
 use Rattle.ntfs_index.proofs.AlikeLemmas.{insert-met, insert-new, insert-twice}
+use Rattle.ntfs_index.proofs.MostLemmas.{insert-more, most-down, most-lost, most-met}
 use Rattle.ntfs_index.proofs.PathLemmas.{AreEntered-more, child-broken, child-twice}
 use Rattle.ntfs_index.proofs.path.Path.enter.Goals as goal
 
@@ -42,3 +44,26 @@ returns-clause-path g c = record {
   few = omega (arith, c.in_ok-push.ensures.len);
   entered = rw c.in_ok-push.ensures.items (AreEntered-more c.args.self.now.above.items _ c.requires.path.entered refl);
 }
+
+pub returns-in_err-child-clause-most : goal.returns-in_err-child-clause-most
+returns-in_err-child-clause-most g c =
+    let old = c.args.self.now in
+    most-met (left_in old.present) (map left_in old.above.items) old.met.keys c.insert.new.self.keys
+    (omega (arith, c.in_ok-insert.ensures.len))
+
+pub returns-in_err-push-clause-most : goal.returns-in_err-push-clause-most
+returns-in_err-push-clause-most g c =
+    let inserted = insert-more _ _ c.in_ok-insert.field-0 c.if-not-branch.false c.in_ok-insert.ensures.len in
+    let first : c.replace-parent.new.dest.entered ≡ false = rw c.replace-parent.ensures.after c.in_ok-child.ensures.first.first in
+    let small : length c.replace-parent.new.dest.bytes.items ≤ 65536 = rw c.replace-parent.ensures.after c.in_ok-child.ensures.small in
+    most-lost c.args.self.now c.replace-parent.new.dest c.insert.new.self inserted
+    (omega (arith, c.len-met.ensures.small, c.len-met.ensures.len)) first small c.push.new.self c.in_err-push.ensures.items
+
+pub returns-clause-most : goal.returns-clause-most
+returns-clause-most g c =
+    let inserted = insert-more _ _ c.in_ok-insert.field-0 c.if-not-branch.false c.in_ok-insert.ensures.len in
+    let first : c.replace-parent.new.dest.entered ≡ false = rw c.replace-parent.ensures.after c.in_ok-child.ensures.first.first in
+    let small : length c.replace-parent.new.dest.bytes.items ≤ 65536 = rw c.replace-parent.ensures.after c.in_ok-child.ensures.small in
+    most-down c.args.self.now c.replace-parent.new.dest c.insert.new.self inserted
+    (omega (arith, c.len-met.ensures.small, c.len-met.ensures.len)) first small c.push.new.self c.requires.child
+    (rw c.replace-parent.ensures.value at c.in_ok-push.ensures.items)

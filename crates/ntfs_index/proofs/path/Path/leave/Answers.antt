@@ -1,5 +1,6 @@
 use Rattle.std.proofs.Common.{subst, arith}
 use Rattle.ntfs_index.specs.Path.{AreEntered}
+use Rattle.ntfs_index.proofs.MostLemmas.{most-up}
 use Rattle.ntfs_index.proofs.PathLemmas.{AreEntered-parts}
 use Rattle.ntfs_index.proofs.path.Path.leave.Goals as goal
 
@@ -16,3 +17,7 @@ returns-in-Some-clause-up c up =
     AreEntered-parts c.pop.new.self.items c.in-Some.parent
     (subst AreEntered c.in-Some.ensures.items c.requires.path.entered) in
     record { above = c.in-Some.ensures.items; entered = parts.1 }
+
+pub returns-in-Some-clause-most : goal.returns-in-Some-clause-most
+returns-in-Some-clause-most c =
+    most-up c.args.self.now c.in-Some.parent c.pop.new.self c.in-Some.ensures.items

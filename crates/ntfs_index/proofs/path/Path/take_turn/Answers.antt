@@ -1,5 +1,6 @@
-use Rattle.std.proofs.Common.{refl, arith}
+use Rattle.std.proofs.Common.{◌∙◌, refl, arith}
 use Rattle.std.proofs.lemmas.Result.{err_from_is_err_and}
+use Rattle.ntfs_index.proofs.MostLemmas.{most-own, passed-left}
 use Rattle.ntfs_index.proofs.PathLemmas.{moved-down, turn-down, turn-refused, turn-up}
 use Rattle.ntfs_index.proofs.path.Path.take_turn.Goals as goal
 
@@ -45,3 +46,18 @@ returns-then-leave-clause-told g c told =
     let step = rw c.entry.ensures at (c.in-End.ensures old.present.vcn) in
     turn-up (g.B.Blocks.seen c.args.blocks.now).blocks old c.leave.new.self step (c.if-leave.ensures.up refl)
     c.if-leave.ensures.met
+
+pub returns-in_ok-show-in-Own-clause-most : goal.returns-in_ok-show-in-Own-clause-most
+returns-in_ok-show-in-Own-clause-most g c =
+    let old = c.args.self.now in
+    let own = rw c.entry.ensures at (c.in-Own.ensures old.present.vcn) in
+    let passed = c.pass.ensures in
+    let fewer = most-own old c.pass.new.self _ (own.2 ∙ passed-left old.present c.in-Own.length c.pass.new.self _ passed) in
+    omega (arith, fewer)
+
+pub returns-in_ok-show-in-Own-clause-fewer : goal.returns-in_ok-show-in-Own-clause-fewer
+returns-in_ok-show-in-Own-clause-fewer g c =
+    let old = c.args.self.now in
+    let own = rw c.entry.ensures at (c.in-Own.ensures old.present.vcn) in
+    let passed = c.pass.ensures in
+    most-own old c.pass.new.self _ (own.2 ∙ passed-left old.present c.in-Own.length c.pass.new.self _ passed)
