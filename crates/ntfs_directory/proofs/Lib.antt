@@ -5,3 +5,4 @@ mod AllocationLemmas
 mod NextLemmas
 mod LawLemmas
 mod UpCaseLemmas
+mod EntryLemmas

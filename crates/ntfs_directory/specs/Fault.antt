@@ -12,6 +12,15 @@ use Rattle.ntfs_volume.specs.declared.fault.VolumeFault.TheVariants as volume
 abbrev pub unwalkable : ℕ → VolumeFault
 unwalkable d = volume.Damaged rule.C13 d
 
+-- an entry of directory d names no record that it may
+abbrev pub bad_entry : ℕ → VolumeFault
+bad_entry d = volume.Damaged rule.C14 d
+
+-- a refusal of the record that an entry of directory d names
+abbrev pub entry_refusal : ℕ → VolumeFault → VolumeFault
+entry_refusal d volume.Absent = bad_entry d
+entry_refusal d other = other
+
 -- a fault of the walk of directory d, as one of the volume
 abbrev pub directory_fault : ℕ → IndexFault → VolumeFault
 directory_fault d (index.BadNode vcn rule) = unwalkable d

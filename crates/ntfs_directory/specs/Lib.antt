@@ -11,3 +11,4 @@ pub mod Directory
 pub mod State
 pub mod ImageBlocks
 pub mod UpCase
+pub mod Entries

@@ -1,6 +1,6 @@
 //! A directory, walked over an image.
 
-ghost use Rattle.std.specs.Prelude.{◌≡◌, ◌≤◌, ℕ, Some, None, Err, true, IfOk, IfErr, IsOk, OnOk};
+ghost use Rattle.std.specs.Prelude.{◌≡◌, ◌<◌, ◌≤◌, ℕ, Some, None, Err, true, IfOk, IfErr, IsOk, OnOk};
 ghost use Rattle.ntfs_base.specs.Bytes.{cluster_at};
 ghost use Rattle.ntfs_base.specs.Frames.{Gives, IfTold, IsJudged, IsSettled, OnlyReads, refused_as};
 ghost use Rattle.ntfs_boot.specs.Geometry.{IsGood, IsOpened};
@@ -10,7 +10,7 @@ ghost use Rattle.ntfs_directory.specs.State.{DirectoryState, IsNextEntry, IsOn, 
 ghost use Rattle.ntfs_index.specs.Blocks.{BlockMap};
 ghost use Rattle.ntfs_index.specs.Node.{root_node};
 ghost use Rattle.ntfs_index.specs.Fetches.{index_origin};
-ghost use Rattle.ntfs_index.specs.State.{IsBegun, IsNext, ShowsKey, left};
+ghost use Rattle.ntfs_index.specs.State.{IfGiven, IsBegun, IsNext, ShowsKey, entries_most, left};
 ghost use Rattle.ntfs_index.specs.declared.fault.IndexFault.{IndexFault as Broken};
 ghost use Rattle.ntfs_directory.specs.ImageBlocks.{ReadsFrom, blocks_in};
 ghost use Rattle.ntfs_index.specs.Walk.{listing, walk};
@@ -180,6 +180,8 @@ fn next_lent<'i, 'g, 'a, G: Image, K: Lending>(
     ensures faulted { IfErr result.0 (λ fault. walk.new.fault ≡ Some fault) }
     ensures sound { OnOk result.0 (walk.new.fault ≡ None) }
     ensures key { ShowsKey result.0 walk.old.key walk.new.key }
+    ensures fewer { IfGiven result.0 (entries_most walk.new < entries_most walk.old) }
+    ensures no_more { entries_most walk.new ≤ entries_most walk.old }
     ensures block { walk.new.size ≡ walk.old.size }
 {
     let mut blocks: ImageBlocks<'i, 'g, 'a, G, K> = ImageBlocks::new(over);
@@ -206,6 +208,8 @@ fn next_entry<G: Image>(
     ensures faulted { IfErr result (λ fault. walk.new.fault ≡ Some fault) }
     ensures sound { OnOk result (walk.new.fault ≡ None) }
     ensures key { ShowsKey result walk.old.key walk.new.key }
+    ensures fewer { IfGiven result (entries_most walk.new < entries_most walk.old) }
+    ensures no_more { entries_most walk.new ≤ entries_most walk.old }
     ensures block { walk.new.size ≡ walk.old.size }
 {
     let over = Lent {
@@ -233,7 +237,8 @@ fn in_directory(
 impl Directory {
     /// The next entry, or `None` where the walk is whole. After a fault it answers that fault again.
     ///
-    /// What it gives is the walk of that directory where the image's content is still the same.
+    /// What it gives is the walk of that directory where the image's content is still the same. With each entry the
+    /// number that can follow at most falls, whatever the image holds.
     pub fn next<G: Image>(
         &mut self,
         image: &mut G,
@@ -250,6 +255,8 @@ impl Directory {
         ensures faulted { IfErr result (λ fault. answered self.new ≡ Some fault) }
         ensures sound { OnOk result (answered self.new ≡ None) }
         ensures key { KeepsEntryKey result self.old.walk.key self.new.walk.key }
+        ensures fewer { IfGiven result (entries_most self.new.walk < entries_most self.old.walk) }
+        ensures no_more { entries_most self.new.walk ≤ entries_most self.old.walk }
         ensures same { IsSameDirectory self.old self.new }
     {
         let answer = next_entry(&mut self.walk, &self.allocation, image, table.geometry());

@@ -1,7 +1,7 @@
 //! The faults of a walk, as those of the volume.
 
 ghost use Rattle.std.specs.Prelude.{◌≡◌};
-ghost use Rattle.ntfs_directory.specs.Fault.{directory_fault, unwalkable};
+ghost use Rattle.ntfs_directory.specs.Fault.{bad_entry, directory_fault, entry_refusal, unwalkable};
 
 use ntfs_base::Rule;
 use ntfs_index::IndexFault;
@@ -14,6 +14,26 @@ pub(crate) fn unwalkable(number: u64) -> VolumeFault
     VolumeFault::Damaged {
         rule: Rule::C13,
         number,
+    }
+}
+
+/// An entry of the directory of a number names no record that it may.
+pub(crate) fn bad_entry(number: u64) -> VolumeFault
+    ensures { result ≡ bad_entry number }
+{
+    VolumeFault::Damaged {
+        rule: Rule::C14,
+        number,
+    }
+}
+
+/// A refusal of the record that an entry of the directory of a number names.
+pub(crate) fn entry_refusal(number: u64, fault: VolumeFault) -> VolumeFault
+    ensures { result ≡ entry_refusal number fault }
+{
+    match fault {
+        VolumeFault::Absent => bad_entry(number),
+        other => other,
     }
 }
 

@@ -5,6 +5,7 @@
 mod allocation;
 mod blocks;
 mod directory;
+mod entries;
 mod fault;
 pub mod laws;
 mod runs;
@@ -12,6 +13,7 @@ mod up_case;
 mod volume;
 
 pub use directory::{Directory, open_directory};
+pub use entries::{EntryRecord, name_in_key, namespace_in_key, read_entry};
 pub use up_case::read_up_case;
 pub use volume::directory_of;
 

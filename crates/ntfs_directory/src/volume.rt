@@ -1,10 +1,10 @@
 //! The same calls over an opened volume.
 
-ghost use Rattle.std.specs.Prelude.{◌≡◌, Some, None, Err, IfErr, IfOk, OnOk};
+ghost use Rattle.std.specs.Prelude.{◌≡◌, ◌<◌, ◌≤◌, Some, None, Err, IfErr, IfOk, OnOk};
 ghost use Rattle.ntfs_base.specs.Frames.{Gives, IfTold, OnlyReads};
 ghost use Rattle.ntfs_directory.specs.Directory.{begun_walk};
 ghost use Rattle.ntfs_directory.specs.State.{IsNextEntry, IsOn, IsSameDirectory, KeepsEntryKey, answered, left_of};
-ghost use Rattle.ntfs_index.specs.State.{IsBegun};
+ghost use Rattle.ntfs_index.specs.State.{IfGiven, IsBegun, entries_most};
 ghost use Rattle.ntfs_volume.specs.Fault.{volume_origin};
 ghost use Rattle.ntfs_volume.specs.Opened.{HasClusters};
 ghost use Rattle.ntfs_volume.specs.declared.fault.VolumeFault.{VolumeFault as Fault};
@@ -53,6 +53,8 @@ impl Directory {
         ensures faulted { IfErr result (λ fault. answered self.new ≡ Some fault) }
         ensures sound { OnOk result (answered self.new ≡ None) }
         ensures key { KeepsEntryKey result self.old.walk.key self.new.walk.key }
+        ensures fewer { IfGiven result (entries_most self.new.walk < entries_most self.old.walk) }
+        ensures no_more { entries_most self.new.walk ≤ entries_most self.old.walk }
         ensures same { IsSameDirectory self.old self.new }
         ensures same_reference { volume.new.image.ghost_name ≡ volume.old.image.ghost_name }
         ensures kept { volume.new.table ≡ volume.old.table }
