@@ -4,6 +4,7 @@
 mod cover;
 mod fault;
 mod info;
+mod label;
 mod owner_query;
 mod pending;
 mod streams;
