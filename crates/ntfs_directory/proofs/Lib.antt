@@ -6,3 +6,4 @@ mod NextLemmas
 mod LawLemmas
 mod UpCaseLemmas
 mod EntryLemmas
+mod PathLemmas

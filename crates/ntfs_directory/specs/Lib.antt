@@ -12,3 +12,4 @@ pub mod State
 pub mod ImageBlocks
 pub mod UpCase
 pub mod Entries
+pub mod Paths

@@ -3,6 +3,8 @@
 ghost use Rattle.std.specs.Prelude.{◌≡◌, ◌<◌, ◌≤◌, Some, None, Err, IfErr, IfOk, OnOk};
 ghost use Rattle.ntfs_base.specs.Frames.{Gives, IfTold, OnlyReads};
 ghost use Rattle.ntfs_directory.specs.Directory.{begun_walk};
+ghost use Rattle.ntfs_directory.specs.Paths.{IsPathRefusal, path_of, path_origin};
+ghost use Rattle.ntfs_directory.specs.Paths as paths;
 ghost use Rattle.ntfs_directory.specs.State.{IsNextEntry, IsOn, IsSameDirectory, KeepsEntryKey, answered, left_of};
 ghost use Rattle.ntfs_index.specs.State.{IfGiven, IsBegun, entries_most};
 ghost use Rattle.ntfs_volume.specs.Fault.{volume_origin};
@@ -10,6 +12,8 @@ ghost use Rattle.ntfs_volume.specs.Opened.{HasClusters};
 ghost use Rattle.ntfs_volume.specs.declared.fault.VolumeFault.{VolumeFault as Fault};
 
 use crate::directory::{Directory, open_directory};
+use crate::path::{directory_at, resolve_path};
+use crate::path_fault::PathFault;
 use ntfs_base::Image;
 use ntfs_index::Entry;
 use ntfs_volume::{Volume, VolumeFault};
@@ -33,6 +37,40 @@ pub fn directory_of<G: Image>(
     ensures reads { OnlyReads G.Image volume_origin volume.old.image.now volume.new.image.now result }
 {
     open_directory(alloc, &mut *volume.image, &volume.table, number)
+}
+
+/// The number of the record that a path of a volume names, as `resolve_path` gives it.
+pub fn resolve<G: Image>(
+    alloc: Global,
+    volume: &mut Volume<'_, G>,
+    path: &str,
+) -> Result<u64, PathFault>
+    requires held { HasClusters (G.seen volume.old.image.now).size volume.old.table }
+    ensures gives { IfTold G.Image volume.old.image.now (λ content. Gives path_origin (λ number. number)
+        (path_of volume.old.table.geometry volume.old.table.map content path.now) result) }
+    ensures listed { IfErr result IsPathRefusal }
+    ensures same_reference { volume.new.image.ghost_name ≡ volume.old.image.ghost_name }
+    ensures kept { volume.new.table ≡ volume.old.table }
+    ensures reads { OnlyReads G.Image path_origin volume.old.image.now volume.new.image.now result }
+{
+    resolve_path(alloc, &mut *volume.image, &volume.table, path)
+}
+
+/// The number of the directory that a path of a volume names, as `directory_at` gives it.
+pub fn resolve_directory<G: Image>(
+    alloc: Global,
+    volume: &mut Volume<'_, G>,
+    path: &str,
+) -> Result<u64, PathFault>
+    requires held { HasClusters (G.seen volume.old.image.now).size volume.old.table }
+    ensures gives { IfTold G.Image volume.old.image.now (λ content. Gives path_origin (λ number. number)
+        (paths.directory_at volume.old.table.geometry volume.old.table.map content path.now) result) }
+    ensures listed { IfErr result IsPathRefusal }
+    ensures same_reference { volume.new.image.ghost_name ≡ volume.old.image.ghost_name }
+    ensures kept { volume.new.table ≡ volume.old.table }
+    ensures reads { OnlyReads G.Image path_origin volume.old.image.now volume.new.image.now result }
+{
+    directory_at(alloc, &mut *volume.image, &volume.table, path)
 }
 
 impl Directory {
