@@ -72,6 +72,7 @@ class Trials:
             path.chmod(0o755)
         build(self.images / "plain", PLAIN)
         build(self.images / "many", MANY)
+        (self.images / "v0").write_bytes(reference(0, 1024, 4096))
         self.before = self.state()
         self.count, self.wrong = 0, []
 
@@ -152,7 +153,25 @@ def info_of(volume):
 INFO = (["ntfsinfo", "-m", "plain"], info_of(PLAIN))
 SHORT = (["ntfscat", "-i", "16", "plain"], shown(PLAIN, 16))
 LONG = (["ntfscat", "-i", "18", "plain"], shown(PLAIN, 18))
-SHOWN = (INFO, SHORT, LONG)
+# What a made volume has, written down from what it is to be and not from what the program prints.
+FILES = ["empty.bin", *(f"file{number:02}" for number in range(16)), "half.bin", "listed.bin", "long name.txt", "packed.bin",
+         "resident.txt", "sparse.bin"]
+NAMES = [".", "Dir", *FILES]
+
+
+def lines(rows):
+    return "".join(f"{row}\n" for row in rows).encode()
+
+
+LISTED = (["ntfsls", "-R", "v0"], lines([".", "Dir", "Dir/inner.txt", *FILES]))
+FOUND = (["ntfscat", "v0", "/half.bin"], bytes(range(0x13, 0x1D)) + bytes(4091))
+HEAD = (["ntfsinfo", "-i", "16", "v0"], lines([
+    "record: 16", "sequence: 1", "links: 1", "flags: 1", "base: 0", "bytes in use: 320",
+    '0x10 "" resident 72', '0x30 "" resident 90', '0x80 "" resident 12']))
+COUNTED = (["ntfscluster", "-i", "v0"], lines(["clusters: 1024", "owned: 119", "bad: 1", "free: 905"]))
+RUNS = (["ntfscluster", "-I", "0", "v0"], lines([
+    'record 0 0x80 "" vcn 0 lcn 3 length 8', 'record 28 0x80 "" vcn 8 lcn 68 length 8']))
+SHOWN = (INFO, SHORT, LONG, LISTED, FOUND, HEAD, COUNTED, RUNS)
 
 
 def fault(words, kind):
@@ -165,15 +184,26 @@ def words(trials):
     for line, status, message in (
         ([], 1, "ntfsprogs: usage: tool"),
         ([""], 1, "ntfsprogs: usage: tool"),
-        (["ntfsls", "-f", "plain"], 1, "ntfsprogs: usage: tool"),
+        (["ntfsclone", "-s", "plain"], 1, "ntfsprogs: usage: tool"),
+        (["ntfsls", "-f", "plain"], 1, f"ntfsls: {usage}"),
+        (["ntfsls", "--help"], 1, f"ntfsls: {usage}"),
         (["ntfsinfo"], 1, f"ntfsinfo: {usage}"),
+        (["ntfsinfo", "-m", "-m", "plain"], 1, f"ntfsinfo: {usage}"),
+        (["ntfsinfo", "plain"], 1, "ntfsinfo: usage: combination"),
+        (["ntfsinfo", "-mi16", "plain"], 1, "ntfsinfo: usage: combination"),
+        (["ntfsinfo", "-i", "0X10", "plain"], 1, "ntfsinfo: usage: number"),
         (["ntfsinfo", "-m", "plain", ""], 1, f"ntfsinfo: {usage}"),
         (["ntfsinfo", "-m", "-plain"], 1, f"ntfsinfo: {usage}"),
         (["ntfsinfo", "-m", "missing"], 2, "ntfsinfo: no such file: missing"),
         (["ntfsinfo", "-m", ""], 2, "ntfsinfo: no such file: "),
         (["ntfscat", "-i", "16"], 1, f"ntfscat: {usage}"),
-        (["ntfscat", "-i", "16", "plain", "plain"], 1, f"ntfscat: {usage}"),
-        (["ntfscat", "-i", "-16", "plain"], 1, "ntfscat: usage: number"),
+        (["ntfscat", "-i", "16", "plain", "plain"], 1, "ntfscat: usage: combination"),
+        (["ntfscat", "plain"], 1, "ntfscat: usage: combination"),
+        (["ntfscat", "-i", "-16", "plain"], 1, f"ntfscat: {usage}"),
+        (["ntfscat", "--inode=-16", "plain"], 1, "ntfscat: usage: number"),
+        (["ntfscat", "-i", "16", "-a", "0x100000000", "plain"], 1, "ntfscat: usage: number"),
+        (["ntfscat", "-i", "16", "-n", "other", "plain"], 7, "ntfscat: not found: stream"),
+        (["ntfscluster", "-c", "2-1", "plain"], 1, "ntfscluster: usage: number"),
         (["ntfscat", "-i", "16", "missing"], 2, "ntfscat: no such file: missing"),
         (["ntfscat", "-i", "9", "plain"], 7, "ntfscat: not found: record 9"),
         (["ntfsmake", "made", "0", "1024"], 1, f"ntfsmake: {usage}"),
@@ -188,6 +218,10 @@ def words(trials):
         trials.expect("words", line, status, err=message.encode() + b"\n")
     for line, out in SHOWN:
         trials.expect("words", line, 0, out)
+    for line in (["plain", "-m"], ["--mft", "plain"], ["-m", "--", "plain"]):
+        trials.expect("spellings", ["ntfsinfo", *line], 0, INFO[1])
+    for line in (["-i16", "plain"], ["-i=0x10", "plain"], ["plain", "--inode", "16"], ["--inode=016", "-a", "128", "--", "plain"]):
+        trials.expect("spellings", ["ntfscat", *line], 0, SHORT[1])
     for line in ([b"\xff"], ["ntfsinfo", "-m", b"pl\xffain"], [*INFO[0], b"\xed\xa0\x80"], [*LONG[0], "a", b"\xc0"]):
         trials.expect("no text", line, 16)
     many = ["ntfsinfo", *(["x"] * 100_000)]
@@ -213,6 +247,44 @@ def streams(trials):
     for number in PLAIN.streams:
         trials.expect("stream", ["ntfscat", "-i", number, "plain"], 0, shown(PLAIN, number))
     trials.expect("5,000 clusters", ["ntfscat", "-i", "0x10", "many"], 0, shown(MANY, 16))
+
+
+def names(trials):
+    """Names and paths in a made volume, and who owns its clusters."""
+    short = ["LONGNA~1.TXT" if name == "long name.txt" else name for name in NAMES]
+    twelve = bytes([0x12 + place for place in range(3)])
+    for line, rows in (
+        ([], NAMES),
+        (["-x"], sorted(short, key=str.upper)),
+        (["-a"], [".", "A.txt", "a.txt", *NAMES[1:]]),
+        (["-p", "/Dir"], ["inner.txt"]),
+        (["-p", "dir//"], ["inner.txt"]),
+        (["-F", "-p", ""], ["./", "Dir/", *FILES]),
+        (["-i", "-pDir"], None),
+    ):
+        done = trials.run(["ntfsls", *line, "v0"])
+        shown = done.out.decode().splitlines()
+        if rows is None:
+            is_right = len(shown) == 1 and shown[0].split(" ")[1:] == ["inner.txt"] and shown[0].split(" ")[0].isdigit()
+        else:
+            is_right = sorted(shown) == sorted(rows) and ("-x" in line or shown == rows)
+        trials.check("names", done.status == 0 and is_right, f"{line} prints {shown}")
+    for path in ("resident.txt", "/RESIDENT.TXT", "//Resident.txt/"):
+        trials.expect("path", ["ntfscat", "v0", path], 0, b"hello, ntfs\n")
+    sparse = trials.run(["ntfscat", "v0", "/sparse.bin"]).out
+    trials.check("sparse", sparse[:8192] == bytes(8192) and sparse[8192:8195] == twelve and sparse[12288:] == bytes(4096), "")
+    trials.expect("empty", ["ntfscat", "v0", "empty.bin"], 0)
+    trials.expect("packed", ["ntfscat", "v0", "packed.bin"], 8, err=b"ntfscat: stream is not plain: flags 0x0001\n")
+    for path, part in (("/Dir/none", 1), ("none/Dir", 0), ("resident.txt/x", 1)):
+        trials.expect("no path", ["ntfscat", "v0", path], 7, err=f"ntfscat: not found: path part {part}\n".encode())
+    trials.expect("no path", ["ntfsls", "-p", "resident.txt", "v0"], 7, err=b"ntfsls: not found: path part 1\n")
+    trials.expect("no record", ["ntfsinfo", "-i", "12", "v0"], 7, err=b"ntfsinfo: not found: record 12\n")
+    trials.expect("no record", ["ntfscluster", "-I", "12", "v0"], 7, err=b"ntfscluster: not found: record 12\n")
+    by_number, by_path = (trials.run(["ntfscluster", *words, "v0"]).out for words in (["-I", "5"], ["-F", "/"]))
+    trials.check("by path", by_path == by_number and by_path != b"", by_path)
+    whole = trials.run(["ntfscluster", "-c", "0-18446744073709551615", "v0"]).out.decode().splitlines()
+    trials.check("clusters", len({row.split()[1] for row in whole}) == 119, len(whole))
+    trials.check("clusters", whole == sorted(whole, key=lambda row: int(row.split()[1])), "not ascending")
 
 
 def made(trials):
@@ -488,7 +560,7 @@ def wanting(trials):
     trials.unchanged("allocations")
 
 
-PARTS = (words, streams, made, closed, outputs, files, limits, together, sparse, calls)
+PARTS = (words, streams, names, made, closed, outputs, files, limits, together, sparse, calls)
 
 
 def main():

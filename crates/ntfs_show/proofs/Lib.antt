@@ -5,3 +5,4 @@ pub mod CoverLemmas
 pub mod SlotLemmas
 pub mod OwnersLemmas
 pub mod PendingLemmas
+pub mod RecordInfoLemmas

@@ -7,3 +7,4 @@ pub mod Printing
 pub mod Cat
 pub mod Owners
 pub mod Pending
+pub mod RecordInfo

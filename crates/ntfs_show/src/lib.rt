@@ -7,11 +7,13 @@ mod info;
 mod label;
 mod owner_query;
 mod pending;
+mod record_info;
 mod streams;
 
 pub use fault::ShowFault;
 pub use info::info_volume;
 pub use owner_query::{OwnerQuery, owners, show_owners};
+pub use record_info::{info_record, show_record};
 pub use streams::{cat, cat_stream};
 
 #[cfg(test)]

@@ -1,4 +1,6 @@
 //! Streams of a small volume: 64 clusters of 1,024 bytes, $MFT of 32 records at cluster 4, the mirror at 40.
+mod record_info;
+
 ghost use Rattle.std.specs.Prelude.{◌<◌, ◌^◌};
 
 use crate::{OwnerQuery, ShowFault, cat, cat_stream, owners, show_owners};
