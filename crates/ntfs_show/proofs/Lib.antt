@@ -6,3 +6,7 @@ pub mod SlotLemmas
 pub mod OwnersLemmas
 pub mod PendingLemmas
 pub mod RecordInfoLemmas
+pub mod ListLemmas
+pub mod ListStateLemmas
+pub mod UnmetLemmas
+pub mod DescentLemmas

@@ -5,6 +5,11 @@ mod cover;
 mod fault;
 mod info;
 mod label;
+mod list_line;
+mod list_options;
+mod list_path;
+mod list_walk;
+mod listing;
 mod owner_query;
 mod pending;
 mod record_info;
@@ -12,9 +17,13 @@ mod streams;
 
 pub use fault::ShowFault;
 pub use info::info_volume;
+pub use list_options::ListOptions;
+pub use list_path::{list, show_list};
 pub use owner_query::{OwnerQuery, owners, show_owners};
 pub use record_info::{info_record, show_record};
 pub use streams::{cat, cat_stream};
 
+#[cfg(test)]
+mod list_tests;
 #[cfg(test)]
 mod tests;
