@@ -10,3 +10,4 @@ pub mod ListLemmas
 pub mod ListStateLemmas
 pub mod UnmetLemmas
 pub mod DescentLemmas
+pub mod ListPathLemmas

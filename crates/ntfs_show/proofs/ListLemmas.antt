@@ -1,5 +1,5 @@
 -- A listing on its way: how steps follow one another, and what a call that prints does to it.
-use Rattle.std.proofs.Common.{◌≡◌, ◌≤◌, ℕ, List, [], ◌++◌, length, take, drop, refl, sym, ap, ◌∙◌, append_assoc}
+use Rattle.std.proofs.Common.{◌≡◌, ◌≤◌, ℕ, List, [], ◌++◌, length, take, drop, Result, Ok, Err, refl, sym, ap, ◌∙◌, append_assoc}
 use Rattle.std.proofs.lemmas.List.{append-nil, take-append-drop}
 use Rattle.ntfs_base.specs.Frames.{IsSettled, PutsPrefix}
 use Rattle.ntfs_base.specs.Sink.{SinkState, after_put}
@@ -7,7 +7,7 @@ use Rattle.ntfs_base.specs.declared.fault.PutFault.{PutFault}
 use Rattle.ntfs_base.specs.declared.fault.PutFault.TheVariants as put
 use Rattle.ntfs_base.proofs.SinkLemmas.{after_put-append, after_put-nil}
 use Rattle.ntfs_show.specs.Fault.{show_fault, show_origin}
-use Rattle.ntfs_show.specs.Progress.{Goes, Stops}
+use Rattle.ntfs_show.specs.Progress.{Goes, Lists, Stops}
 use Rattle.ntfs_show.specs.Pending.{IsPrinted}
 use Rattle.ntfs_show.specs.Printing.{Printing, before, stops}
 use Rattle.ntfs_show.specs.declared.fault.ShowFault.{ShowFault}
@@ -127,3 +127,13 @@ module _ {I J : Type 0} (told : Type 0) (f : J → I) where
 pub put-never : (fault : PutFault) → IsSettled (show_origin (show_fault fault)) → ⊥
 put-never put.Failed settled = settled
 put-never put.NoMemory settled = settled
+
+-- what is printed may be said in other words
+pub lists-as : {T I : Type 0} (told : Type 0) (first old : I → Printing ShowFault) (was : SinkState)
+    (result : Result T ShowFault) (new : T → I → Printing ShowFault) (waiting : List ℕ) (now : SinkState)
+    → (told → (i : I) → first i ≡ old i) → Lists told old was result new waiting now
+    → Lists told first was result new waiting now
+lists-as told first old was (Ok x) new waiting now same goes =
+    goes-at told (λ i. i) old (new x) first (new x) was now goes same (λ is i. refl)
+lists-as told first old was (Err fault) new waiting now same stops =
+    stops-at told (λ i. i) old first fault was waiting now stops same

@@ -29,6 +29,18 @@ unmet-le (suc n) number old new meets =
     let last = step-le (is_met n new) (is_met n old) (is_at (nat_cmp number) n) (meets.updates n) in
     omega (arith, rest, last)
 
+one-most : (is : Bool) → (if is then 0 else 1) ≤ 1
+one-most true = omega arith
+one-most false = omega arith
+
+pub unmet-most : (n : ℕ) (met : List ℕ) → unmet n met ≤ n
+unfolding unmet
+unmet-most zero met = omega arith
+unmet-most (suc n) met =
+    let rest = unmet-most n met in
+    let last = one-most (is_met n met) in
+    omega (arith, rest, last)
+
 -- the number itself is met then
 pub one-met : (number : ℕ) (old new : List ℕ) → MeetsOne number old new → is_met number new ≡ true
 one-met number old new meets =

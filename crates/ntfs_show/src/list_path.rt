@@ -34,7 +34,6 @@ impl From<PathFault> for ShowFault {
 }
 
 /// Prints what is shown of the directory that a path names.
-#[tactic(auto, unfolding(crate::specs::ListPath::list_outcome))]
 fn list_path<G: Image, K: Sink>(
     alloc: Global,
     image: &mut G,

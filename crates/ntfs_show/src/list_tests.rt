@@ -15,10 +15,10 @@ const NAME: &[u8] = b"$\0I\x003\x000\0";
 /// An entry: the reference of its record, its namespace, and its name in UTF-16LE.
 type Named<'a> = (u64, u8, &'a [u8]);
 
-/// Writes bytes over others, as far as they reach.
+/// Writes a text over the bytes, where it lies in them.
 fn put(bytes: &mut [u8], place: usize, text: &[u8]) {
-    for (to, from) in bytes.iter_mut().skip(place).zip(text) {
-        *to = *from;
+    if place <= bytes.len() && text.len() <= bytes.len() - place {
+        bytes[place..place + text.len()].copy_from_slice(text);
     }
 }
 
@@ -74,11 +74,11 @@ fn entry(bytes: &mut [u8], place: usize, named: Named<'_>) -> usize {
     length
 }
 
-/// Puts a directory, whose index root has a value of 640 bytes.
+/// Puts a directory, whose index root has a value of 720 bytes.
 fn directory(bytes: &mut [u8], number: u64, entries: &[Named<'_>]) {
     let root = record_at(number).wrapping_add(56);
-    put(bytes, root, &[0x90, 0, 0, 0, 0xA0, 2, 0, 0, 0, 4, 24, 0]);
-    put(bytes, root.wrapping_add(0x10), &[0x80, 2, 0, 0, 32]);
+    put(bytes, root, &[0x90, 0, 0, 0, 0xF0, 2, 0, 0, 0, 4, 24, 0]);
+    put(bytes, root.wrapping_add(0x10), &[0xD0, 2, 0, 0, 32]);
     put(bytes, root.wrapping_add(24), NAME);
     put(
         bytes,
@@ -95,7 +95,7 @@ fn directory(bytes: &mut [u8], number: u64, entries: &[Named<'_>]) {
     put(bytes, place.wrapping_add(8), &[16, 0, 0, 0, 2]);
     put(bytes, root.wrapping_add(48), &[16]);
     put(bytes, root.wrapping_add(52), &((used % 65_536) as u32).to_le_bytes());
-    record(bytes, number, 3, 56 + 672);
+    record(bytes, number, 3, 56 + 752);
 }
 
 /// A volume of so many records, of which that of $MFT is in use.
