@@ -10,3 +10,8 @@ pub mod HeldLemmas
 pub mod ScanLemmas
 pub mod LineLemmas
 pub mod FileLemmas
+pub mod ListLemmas
+pub mod ListStateLemmas
+pub mod UnmetLemmas
+pub mod DescentLemmas
+pub mod ListPathLemmas

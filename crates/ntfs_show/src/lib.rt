@@ -9,6 +9,11 @@ mod holding;
 mod info;
 mod label;
 mod owner_lines;
+mod list_line;
+mod list_options;
+mod list_path;
+mod list_walk;
+mod listing;
 mod owner_query;
 mod pending;
 mod record_info;
@@ -17,9 +22,13 @@ mod streams;
 
 pub use fault::ShowFault;
 pub use info::info_volume;
+pub use list_options::ListOptions;
+pub use list_path::{list, show_list};
 pub use owner_query::{OwnerQuery, owners, show_owners};
 pub use record_info::{info_record, show_record};
 pub use streams::{cat, cat_stream};
 
+#[cfg(test)]
+mod list_tests;
 #[cfg(test)]
 mod tests;
