@@ -9,3 +9,9 @@ pub mod HeldLemmas
 pub mod ScanLemmas
 pub mod LineLemmas
 pub mod FileLemmas
+pub mod SweepLemmas
+pub mod SpanLemmas
+pub mod RangeLemmas
+pub mod StartLemmas
+pub mod TurnLemmas
+pub mod RangeOutcomeLemmas

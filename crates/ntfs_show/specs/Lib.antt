@@ -9,3 +9,4 @@ pub mod Held
 pub mod OwnerLines
 pub mod Owners
 pub mod Pending
+pub mod Sweep
