@@ -15,3 +15,9 @@ pub mod ListStateLemmas
 pub mod UnmetLemmas
 pub mod DescentLemmas
 pub mod ListPathLemmas
+pub mod SweepLemmas
+pub mod SpanLemmas
+pub mod RangeLemmas
+pub mod StartLemmas
+pub mod TurnLemmas
+pub mod RangeOutcomeLemmas

@@ -15,3 +15,4 @@ pub mod Listing
 pub mod ListState
 pub mod Descent
 pub mod ListPath
+pub mod Sweep

@@ -1,6 +1,8 @@
 //! What the tools print: the geometry of a volume, the streams of its records, and who owns its clusters.
 #![tactic(auto)]
 
+mod cluster_query;
+mod cluster_rows;
 mod cover;
 mod fault;
 mod file_runs;
@@ -18,7 +20,9 @@ mod owner_query;
 mod pending;
 mod record_info;
 mod reread;
+mod row;
 mod streams;
+mod sweep;
 
 pub use fault::ShowFault;
 pub use info::info_volume;
