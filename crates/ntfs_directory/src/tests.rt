@@ -1,5 +1,7 @@
 //! Walks of record 5 of small volumes: 64 clusters, $MFT of 12 records at cluster 4, index blocks of 1,024 bytes. What
 //! a walk gives is told as text: each entry's reference, and the end.
+mod paths;
+
 ghost use Rattle.ntfs_directory.specs.State.{IsOn, answered};
 ghost use Rattle.ntfs_volume.specs.Opened.{HasClusters};
 ghost use Rattle.std.specs.Prelude.{◌≡◌, None};

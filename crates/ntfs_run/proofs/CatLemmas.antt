@@ -1,13 +1,13 @@
--- What ntfscat puts: nothing where the image isn't there, and where the work was done the stream of the record.
-use Rattle.std.proofs.Common.{◌≡◌, [], List, ℕ, refl, sym, ap, ◌∙◌, Result, Ok, Err, Option, Some, None, ok_or}
+-- What ntfscat puts: where its work was done, the stream of the record.
+use Rattle.std.proofs.Common.{◌≡◌, ℕ, List, refl, sym, ap, ◌∙◌, Result, Ok, Err, Option, Some, None, ok_or}
 use Rattle.ntfs_base.specs.Bytes.{cluster_at}
-use Rattle.ntfs_base.specs.Frames.{IsSettled, must, refused_as, ◌>>=◌}
+use Rattle.ntfs_base.specs.Frames.{must, refused_as, ◌>>=◌}
 use Rattle.ntfs_base.specs.Shelf.{Files, file_of}
 use Rattle.ntfs_base.specs.Sink.{SinkState, after_put}
 use Rattle.ntfs_base.specs.declared.refusal.Named.TheVariants as named
-use Rattle.ntfs_base.specs.declared.refusal.UsageKind.{UsageKind}
 use Rattle.ntfs_show.specs.Cat.{cat_outcome, gathered_stream}
 use Rattle.ntfs_show.specs.Fault.{gather_refusal, stream_refusal}
+use Rattle.ntfs_show.specs.Printing.{Printing, end_of, printing_of}
 use Rattle.ntfs_show.specs.declared.fault.ShowFault.{ShowFault}
 use Rattle.ntfs_show.specs.declared.fault.ShowFault.TheVariants as show
 use Rattle.ntfs_stream.specs.StreamBytes.{is_plain, stream_outcome}
@@ -17,39 +17,23 @@ use Rattle.ntfs_volume.specs.Opened.{Opened, opened_of}
 use Rattle.ntfs_volume.specs.Streams.{gather_of}
 use Rattle.ntfs_volume.specs.declared.fault.VolumeFault.{VolumeFault}
 use Rattle.ntfs_volume.specs.declared.fault.VolumeFault.TheVariants as volume
-use Rattle.ntfs_run.specs.Cat.{IsStreamOf, PutsStream, cat_bytes, record_bytes}
-use Rattle.ntfs_run.specs.Command.{Command, cat}
-use Rattle.ntfs_run.specs.Outcome.{Does, show_status, shows, status_origin, volume_status}
+use Rattle.ntfs_words.specs.declared.request.Request.{Request}
+use Rattle.ntfs_words.specs.declared.request.Request.TheVariants as request
+use Rattle.ntfs_directory.specs.Paths.{path_of}
+use Rattle.ntfs_directory.specs.declared.path_fault.PathFault.{PathFault}
+use Rattle.ntfs_directory.specs.declared.path_fault.PathFault.TheVariants as path
+use Rattle.ntfs_words.specs.declared.request.Target.{Target}
+use Rattle.ntfs_words.specs.declared.request.Target.TheVariants as target
+use Rattle.ntfs_run.specs.Place.{number_at, number_meant}
+use Rattle.ntfs_words.specs.declared.request.WordsFault.{WordsFault}
+use Rattle.ntfs_run.specs.Cat.{IsStreamOf, PutsStream, cat_bytes, stream_name}
+use Rattle.ntfs_run.specs.Outcome.{Does, path_status, show_status, status_of, status_origin, volume_status}
 use Rattle.ntfs_run.specs.Reply.{PutsIfCat, outcome_for}
+use Rattle.ntfs_run.specs.Show.{image_printing, volume_printing}
+use Rattle.ntfs_show.specs.RecordInfo.{printing_after}
 use Rattle.ntfs_run.specs.declared.status.Status.{Status}
 use Rattle.ntfs_run.specs.declared.status.Status.TheVariants as status
-use Rattle.ntfs_base.proofs.FramesLemmas.{gives_as}
-use Rattle.ntfs_run.proofs.ToolLemmas.{bind_ok, given_some, must_ok, refused_ok}
-
--- ---- the stream of a record
-
-the_same : {E : Type 0} (r : Result (List ℕ) E) (a b : List ℕ) → r ≡ Ok a → r ≡ Ok b → b ≡ a
-the_same r a b one other = cc
-
--- what the outcome shows is the bytes of the stream
-stream_is_told : (image : List ℕ) (number : ℕ) (bytes : List ℕ) → record_bytes image number ≡ Ok bytes → IsStreamOf image number bytes
-unfolding record_bytes cat_outcome stream_outcome
-stream_is_told image number bytes is =
-    let opened = bind_ok (refused_as volume_status (opened_of image)) _ bytes is in
-    let volume = opened.0 in
-    let shown = refused_ok show_status (cat_outcome volume image number 0x80 []) bytes opened.2 in
-    let gathered = bind_ok (gathered_stream volume image number 0x80 []) _ bytes shown in
-    let found = gathered.0 in
-    let told = refused_ok stream_refusal (stream_outcome volume.geometry image found.stream) bytes gathered.2 in
-    let plain = bind_ok (must (is_plain found.stream.flags) (stream.NotPlain found.stream.flags)) _ bytes told in
-    record {
-      volume = volume;
-      found = found;
-      opened = refused_ok volume_status (opened_of image) volume opened.1;
-      gathered = refused_ok (gather_refusal number) (gather_of volume.geometry volume.map (cluster_at image volume.geometry.cluster) number 0x80 []) found gathered.1;
-      plain = must_ok (is_plain found.stream.flags) (stream.NotPlain found.stream.flags) plain.0 plain.1;
-      whole = the_same _ _ bytes refl plain.2;
-    }
+use Rattle.ntfs_run.proofs.ToolLemmas.{bind_ok, must_ok, refused_ok}
 
 -- ---- the opening of the volume
 
@@ -64,29 +48,33 @@ volume-origin volume.NoMemory = refl
 volume-origin volume.Absent = refl
 volume-origin volume.NoAttribute = refl
 
-pub record_refused : (image : List ℕ) (number : ℕ) (fault : VolumeFault) → (IsSettled (volume_origin fault) → opened_of image ≡ Err fault)
-    → IsSettled (status_origin (volume_status fault)) → record_bytes image number ≡ Err (volume_status fault)
-unfolding record_bytes
-record_refused image number fault is settled =
-    ap (λ r. r >>= (λ volume. refused_as show_status (cat_outcome volume image number 0x80 [])))
-    (gives_as volume_origin status_origin volume_status volume-origin (opened_of image) fault is settled)
+-- ---- the stream of a record
 
-pub record_opened : (image : List ℕ) (number : ℕ) (v : Opened) → opened_of image ≡ Ok v
-    → record_bytes image number ≡ refused_as show_status (cat_outcome v image number 0x80 [])
-unfolding record_bytes
-record_opened image number v is = rw is refl
+the_same : {E : Type 0} (r : Result (List ℕ) E) (a b : List ℕ) → r ≡ Ok a → r ≡ Ok b → b ≡ a
+the_same r a b one other = cc
 
--- ---- the image of a name
-
-pub cat_held : (name : List ℕ) (number : ℕ) (files : Files) (image : List ℕ) → ok_or (file_of files name) (status.Absent named.Image) ≡ Ok image
-    → cat_bytes name number files ≡ record_bytes image number
-unfolding cat_bytes
-cat_held name number files image is = ap (λ r. r >>= (λ image. record_bytes image number)) is
-
-pub cat_absent : (name : List ℕ) (number : ℕ) (files : Files) (fault : Status) → ok_or (file_of files name) (status.Absent named.Image) ≡ Err fault
-    → cat_bytes name number files ≡ Err fault
-unfolding cat_bytes
-cat_absent name number files fault is = ap (λ r. r >>= (λ image. record_bytes image number)) is
+-- what the outcome shows is the bytes of the stream
+stream_is_told : (image : List ℕ) (volume : Opened) (place : Target) (kind : ℕ) (name bytes : List ℕ) → opened_of image ≡ Ok volume
+    → cat_bytes place kind name volume image ≡ Ok bytes → IsStreamOf image place kind name bytes
+unfolding cat_bytes cat_outcome stream_outcome
+stream_is_told image volume place kind name bytes opened is =
+    let meant = bind_ok (number_meant place volume image) (λ number. refused_as show_status (cat_outcome volume image number kind name)) bytes is in
+    let number = meant.0 in
+    let shown = refused_ok show_status (cat_outcome volume image number kind name) bytes meant.2 in
+    let gathered = bind_ok (gathered_stream volume image number kind name) _ bytes shown in
+    let found = gathered.0 in
+    let told = refused_ok stream_refusal (stream_outcome volume.geometry image found.stream) bytes gathered.2 in
+    let plain = bind_ok (must (is_plain found.stream.flags) (stream.NotPlain found.stream.flags)) _ bytes told in
+    record {
+      volume = volume;
+      number = number;
+      found = found;
+      opened = opened;
+      meant = meant.1;
+      gathered = refused_ok (gather_refusal number) (gather_of volume.geometry volume.map (cluster_at image volume.geometry.cluster) number kind name) found gathered.1;
+      plain = must_ok (is_plain found.stream.flags) (stream.NotPlain found.stream.flags) plain.0 plain.1;
+      whole = the_same _ _ bytes refl plain.2;
+    }
 
 -- ---- where the work was done
 
@@ -113,50 +101,73 @@ done_shown : (outcome : Result (List ℕ) ShowFault) → refused_as show_status 
 done_shown (Ok bytes) is = cc
 done_shown (Err fault) is = done_show fault cc
 
-done_opened : (opened : Result Opened VolumeFault) (f : Opened → Result (List ℕ) ShowFault)
-    → (refused_as volume_status opened >>= (λ v. refused_as show_status (f v))) ≡ Err status.Done → ⊥
-done_opened (Ok v) f is = done_shown (f v) is
-done_opened (Err fault) f is = done_volume fault cc
+done_path : (fault : PathFault) → path_status fault ≡ status.Done → ⊥
+done_path (path.NotFound what) is = cc
+done_path (path.Damaged rule number) is = cc
+done_path path.ReadFault is = cc
+done_path path.NoMemory is = cc
 
-done_record : (image : List ℕ) (number : ℕ) → record_bytes image number ≡ Err status.Done → ⊥
-unfolding record_bytes
-done_record image number is = done_opened (opened_of image) (λ v. cat_outcome v image number 0x80 []) is
+done_at : (r : Result ℕ PathFault) → refused_as path_status r ≡ Err status.Done → ⊥
+done_at (Ok number) is = cc
+done_at (Err fault) is = done_path fault cc
 
-done_bytes : (o : Option (List ℕ)) (number : ℕ)
-    → (ok_or o (status.Absent named.Image) >>= (λ image. record_bytes image number)) ≡ Err status.Done → ⊥
-done_bytes (Some image) number is = done_record image number is
-done_bytes None number is = cc
+done_meant : (place : Target) (volume : Opened) (image : List ℕ) → number_meant place volume image ≡ Err status.Done → ⊥
+unfolding number_at
+done_meant (target.Number number) volume image is = cc
+done_meant (target.Path path) volume image is = done_at (path_of volume.geometry volume.map image path) is
 
-no_refusal : (name : List ℕ) (number : ℕ) (files : Files) → cat_bytes name number files ≡ Err status.Done → ⊥
+done_then : {A B : Type 0} (r : Result A Status) (f : A → Result B Status) → (r ≡ Err status.Done → ⊥) → ((x : A) → f x ≡ Err status.Done → ⊥)
+    → (r >>= f) ≡ Err status.Done → ⊥
+done_then (Ok x) f first rest is = rest x is
+done_then (Err fault) f first rest is = first (let same : fault ≡ status.Done = cc in ap Err same)
+
+no_refusal : (place : Target) (kind : ℕ) (name : List ℕ) (volume : Opened) (image : List ℕ) → cat_bytes place kind name volume image ≡ Err status.Done → ⊥
 unfolding cat_bytes
-no_refusal name number files is = done_bytes (file_of files name) number is
+no_refusal place kind name volume image is =
+    done_then (number_meant place volume image) (λ number. refused_as show_status (cat_outcome volume image number kind name))
+    (done_meant place volume image) (λ number. done_shown (cat_outcome volume image number kind name)) is
 
--- the bytes are those of the stream
-stream_of : (name : List ℕ) (number : ℕ) (files : Files) (bytes : List ℕ) (before after : SinkState) → cat_bytes name number files ≡ Ok bytes
-    → after ≡ after_put bytes before → PutsStream name number files before after
-unfolding cat_bytes
-stream_of name number files bytes before after is put =
-    let held = bind_ok (ok_or (file_of files name) (status.Absent named.Image)) (λ image. record_bytes image number) bytes is in
-    record {
-      image = held.0;
-      bytes = bytes;
-      held = given_some (file_of files name) (status.Absent named.Image) held.0 held.1;
-      stream = stream_is_told held.0 number bytes held.2;
-      put = put;
-    }
+-- all of it was put, and it ended without a refusal
+abbrev IsDone : Printing Status → SinkState → SinkState → Type 0
+IsDone printing before after = (status.Done ≡ status_of (end_of printing.fault)) × (after ≡ after_put printing.output before)
 
-done_stream : (name : List ℕ) (number : ℕ) (files left : Files) (before after : SinkState) (r : Result (List ℕ) Status) → cat_bytes name number files ≡ r
-    → Does (shows files r) status.Done before after left → PutsStream name number files before after
-done_stream name number files left before after (Ok bytes) is does = stream_of name number files bytes before after is (does.output tt)
-done_stream name number files left before after (Err fault) is does = absurd (no_refusal name number files (is ∙ ap Err (sym (does.status tt))))
+module _ (file : List ℕ) (place : Target) (kind : ℕ) (name : Option (List ℕ)) (files : Files) (before after : SinkState) where
+  bytes_done : (image : List ℕ) (volume : Opened) → file_of files file ≡ Some image → opened_of image ≡ Ok volume
+      → (r : Result (List ℕ) Status) → cat_bytes place kind (stream_name name) volume image ≡ r → IsDone (printing_of r) before after
+      → PutsStream file place kind (stream_name name) files before after
+  bytes_done image volume held opened (Ok bytes) is done = record {
+    image = image;
+    bytes = bytes;
+    held = held;
+    stream = stream_is_told image volume place kind (stream_name name) bytes opened is;
+    put = done.1;
+  }
+  bytes_done image volume held opened (Err fault) is done =
+      absurd (no_refusal place kind (stream_name name) volume image (is ∙ ap Err (sym done.0)))
+
+  volume_done : (image : List ℕ) → file_of files file ≡ Some image → (r : Result Opened VolumeFault) → opened_of image ≡ r
+      → IsDone (printing_after (refused_as volume_status r) (λ volume. printing_of (cat_bytes place kind (stream_name name) volume image))) before after
+      → PutsStream file place kind (stream_name name) files before after
+  volume_done image held (Ok volume) opened done = bytes_done image volume held opened (cat_bytes place kind (stream_name name) volume image) refl done
+  volume_done image held (Err fault) opened done = absurd (done_volume fault (sym done.0))
+
+  file_done : (o : Option (List ℕ)) → file_of files file ≡ o
+      → IsDone (printing_after (ok_or o (status.Absent named.Image)) (image_printing (request.Cat place kind name file))) before after
+      → PutsStream file place kind (stream_name name) files before after
+  unfolding image_printing volume_printing
+  file_done (Some image) held done = volume_done image held (opened_of image) refl done
+  file_done None held done = absurd cc
 
 -- ntfscat puts the stream, of whatever words it was told
-cat_stream : (name : List ℕ) (number : ℕ) (s : Status) (files left : Files) (before after : SinkState)
-    → Does (shows files (cat_bytes name number files)) s before after left → PutsIfCat (Ok (cat name number)) s files before after
-cat_stream name number status.Done files left before after does = done_stream name number files left before after (cat_bytes name number files) refl does
-cat_stream name number other files left before after does = tt
+cat_stream : (file : List ℕ) (place : Target) (kind : ℕ) (name : Option (List ℕ)) (s : Status) (files left : Files) (before after : SinkState)
+    → Does (outcome_for (Ok (request.Cat place kind name file)) files) s before after left
+    → PutsIfCat (Ok (request.Cat place kind name file)) s files before after
+cat_stream file place kind name status.Done files left before after does =
+    file_done file place kind name files before after (file_of files file) refl (does.status tt, does.output tt)
+cat_stream file place kind name other files left before after does = tt
 
-pub puts_stream : (reading : Result Command UsageKind) (s : Status) (files left : Files) (before after : SinkState)
+pub puts_stream : (reading : Result Request WordsFault) (s : Status) (files left : Files) (before after : SinkState)
     → Does (outcome_for reading files) s before after left → PutsIfCat reading s files before after
-puts_stream (Ok (cat name number)) s files left before after does = cat_stream name number s files left before after does
+puts_stream (Ok (request.Cat place kind name file)) s files left before after does =
+    cat_stream file place kind name s files left before after does
 puts_stream other s files left before after does = tt

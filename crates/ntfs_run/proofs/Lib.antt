@@ -1,9 +1,7 @@
 pub mod MessageLemmas
-pub mod NumberLemmas
 pub mod RangeLemmas
 pub mod ToolLemmas
 pub mod MakeLemmas
-pub mod InfoLemmas
 pub mod CatLemmas
-pub mod ClusterLemmas
+pub mod ShowLemmas
 pub mod ReplyLemmas

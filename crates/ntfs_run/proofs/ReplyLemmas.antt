@@ -1,9 +1,11 @@
 -- What the answer of a tool says of the program's reply.
-use Rattle.std.proofs.Common.{◌≡◌, ◌↔◌, ℕ, true, List, refl, sym, ap, subst, ◌∙◌, Result, Ok, Err, Option, Some}
+use Rattle.std.proofs.Common.{◌≡◌, ◌⊎◌, ℕ, true, List, [], refl, sym, ap, subst, ◌∙◌, Result, Ok, Err, Option, Some, None}
 use Rattle.std.proofs.Common.{IfErr, IfOk, OnOk, is_ok, inl, inr, length, arith}
+use Rattle.std.proofs.Math.Seq.{take-nil}
 use Rattle.std.proofs.lemmas.List.{take_all}
 use Rattle.ntfs_base.specs.Causes.{SinkCause}
-use Rattle.ntfs_base.specs.Frames.{Because, IfFiles}
+use Rattle.ntfs_base.specs.Frames.{Because, IfFiles, IsSettled, PutsPrefix}
+use Rattle.ntfs_base.specs.Shelf.{Files}
 use Rattle.ntfs_base.specs.Sink.{Put, SinkState, after_put}
 use Rattle.ntfs_base.specs.declared.fault.PutFault.{PutFault}
 use Rattle.ntfs_base.specs.declared.fault.PutFault.TheVariants as put
@@ -11,18 +13,25 @@ use Rattle.ntfs_base.specs.declared.fault.SinkFaults.{SinkFaults}
 use Rattle.ntfs_base.specs.declared.refusal.UsageKind.{UsageKind}
 use Rattle.ntfs_base.specs.declared.shelf.Shelf as shelf
 use Rattle.ntfs_base.specs.declared.sink.Sink as sink
+use Rattle.ntfs_words.specs.Answers.{CanFail, CanMisuse, tool_for}
+use Rattle.ntfs_words.specs.Line.{Reads}
+use Rattle.ntfs_words.specs.declared.request.Request.{Request}
+use Rattle.ntfs_words.specs.declared.request.Request.TheVariants as request
+use Rattle.ntfs_words.specs.declared.request.WordsFault.{WordsFault}
+use Rattle.ntfs_words.specs.declared.request.WordsFault.TheVariants as words_fault
+use Rattle.ntfs_words.specs.declared.tool.Tool.{Tool}
+use Rattle.ntfs_words.specs.declared.request.Ask.TheVariants as ask
 use Rattle.ntfs_run.specs.Cat.{CatRefuses}
 use Rattle.ntfs_run.specs.Cluster.{ClusterRefuses}
-use Rattle.ntfs_run.specs.Command.{CanMisuse, Command, command_in, command_of, reading_of, tool_for, tool_of}
-use Rattle.ntfs_run.specs.Info.{InfoRefuses}
+use Rattle.ntfs_run.specs.Command.{is_built, request_in, tool_in}
+use Rattle.ntfs_run.specs.Info.{GeometryRefuses, RecordRefuses}
 use Rattle.ntfs_run.specs.Make.{MakeRefuses}
-use Rattle.ntfs_run.specs.Outcome.{Does, MayWriteFiles, status_of, status_origin}
-use Rattle.ntfs_run.specs.Message.{message_for, message_of}
-use Rattle.ntfs_run.specs.Reply.{CanAnswer, IfDone, ToolRefuses, LeavesFiles, PutsMessage, CanRefuse, Replies, KeepsShelf, outcome_for, reply}
+use Rattle.ntfs_base.proofs.SinkLemmas.{after_put-nil}
+use Rattle.ntfs_run.specs.Outcome.{Does, MayWriteFiles, Outcome, refused_with, status_of, status_origin, words_status}
+use Rattle.ntfs_run.specs.Message.{line_for, message_for, message_of}
+use Rattle.ntfs_run.specs.Reply.{CanAnswer, CanRefuse, IfDone, KeepsShelf, LeavesFiles, PutsIfCat, PutsMessage, Replies, RequestRefuses}
+use Rattle.ntfs_run.specs.Reply.{outcome_for, reply}
 use Rattle.ntfs_run.proofs.CatLemmas.{puts_stream}
-use Rattle.ntfs_run.specs.declared.request.Request.{Request}
-use Rattle.ntfs_run.specs.declared.request.Tool.{Tool}
-use Rattle.ntfs_run.specs.declared.request.Tool.TheVariants.{Info, Cat, Cluster, Make}
 use Rattle.ntfs_run.specs.declared.status.Status.{Status}
 use Rattle.ntfs_run.specs.declared.status.Status.TheVariants as status
 
@@ -34,10 +43,15 @@ IsOther status.Done = ⊥
 IsOther (status.Usage kind) = ⊥
 IsOther other = Unit {0}
 
-info_other : (fault : Status) → InfoRefuses fault → IsOther fault
-info_other status.Done is = is
-info_other (status.Usage kind) is = is
-info_other other is = tt
+geometry_other : (fault : Status) → GeometryRefuses fault → IsOther fault
+geometry_other status.Done is = is
+geometry_other (status.Usage kind) is = is
+geometry_other other is = tt
+
+record_other : (fault : Status) → RecordRefuses fault → IsOther fault
+record_other status.Done is = is
+record_other (status.Usage kind) is = is
+record_other other is = tt
 
 cat_other : (fault : Status) → CatRefuses fault → IsOther fault
 cat_other status.Done is = is
@@ -54,59 +68,76 @@ make_other status.Done is = is
 make_other (status.Usage kind) is = is
 make_other other is = tt
 
-is_other : (tool : Tool) (fault : Status) → ToolRefuses tool fault → IsOther fault
-is_other Info fault is = info_other fault is
-is_other Cat fault is = cat_other fault is
-is_other Cluster fault is = cluster_other fault is
-is_other Make fault is = make_other fault is
+is_other : (request : Request) (fault : Status) → is_built request ≡ true → RequestRefuses request fault → IsOther fault
+is_other (request.Info mft None image) fault built is = geometry_other fault is
+is_other (request.Info mft (Some number) image) fault built is = record_other fault is
+is_other (request.Cat place kind name image) fault built is = cat_other fault is
+is_other (request.Cluster ask.Info image) fault built is = cluster_other fault is
+is_other (request.Make file seed clusters cluster) fault built is = make_other fault is
+is_other other fault built is = absurd cc
 
--- Usage comes exactly where the words are refused
-usage_exact : (reading : Result Command UsageKind) (result : Result (Unit {0}) Status) → IfErr result (CanRefuse reading)
-    → OnOk result (is_ok reading ≡ true) → (kind : UsageKind) → (status_of result ≡ status.Usage kind) ↔ (reading ≡ Err kind)
-usage_exact (Err k) (Ok x) refusal taken kind = absurd cc
-usage_exact (Err k) (Err fault) refusal taken kind = (λ is. cc, λ is. cc)
-usage_exact (Ok command) (Ok x) refusal taken kind = (λ is. absurd cc, λ is. absurd cc)
-usage_exact (Ok command) (Err fault) refusal taken kind =
-    (λ is. absurd (subst IsOther is (is_other (tool_for command) fault refusal)), λ is. absurd cc)
+usage_of : (refusal : WordsFault) (kind : UsageKind) → words_status refusal ≡ status.Usage kind → refusal ≡ words_fault.Usage kind
+usage_of (words_fault.Usage k) kind is = let same : k ≡ kind = cc in ap words_fault.Usage same
+usage_of words_fault.NoMemory kind is = absurd cc
+
+-- Usage comes only where the words are refused
+usage_only : (reading : Result Request WordsFault) (result : Result (Unit {0}) Status) → IfOk reading (λ request. is_built request ≡ true)
+    → IfErr result (CanRefuse reading) → (kind : UsageKind) → status_of result ≡ status.Usage kind → reading ≡ Err (words_fault.Usage kind)
+usage_only reading (Ok x) built refusal kind is = absurd cc
+usage_only (Err k) (Err fault) built refusal kind is = ap Err (usage_of k kind (sym refusal ∙ is))
+usage_only (Ok request) (Err fault) built refusal kind is = absurd (subst IsOther is (is_other request fault built refusal))
+
+-- and always there
+usage_always : (reading : Result Request WordsFault) (result : Result (Unit {0}) Status) → IfErr result (CanRefuse reading)
+    → OnOk result (is_ok reading ≡ true) → (kind : UsageKind) → reading ≡ Err (words_fault.Usage kind) → status_of result ≡ status.Usage kind
+usage_always (Ok request) result refusal taken kind is = absurd cc
+usage_always (Err k) (Ok x) refusal taken kind is = absurd cc
+usage_always (Err k) (Err fault) refusal taken kind is = refusal ∙ (let same : k ≡ words_fault.Usage kind = cc in ap words_status same)
 
 -- ---- the statuses of a tool
 
-pub reading_err : (P : UsageKind → Type 0) (r : Result Request UsageKind) → IfErr r P → IfErr (reading_of r) P
-reading_err P (Ok request) is = tt
-reading_err P (Err kind) is = is
+can_refuse : (tool : Tool) (request : Request) (fault : Status) → RequestRefuses request fault → IsOther fault → CanAnswer (Some tool) (Ok request) fault
+can_refuse tool request status.Done is other = absurd other
+can_refuse tool request (status.Usage kind) is other = absurd other
+can_refuse tool request status.NoMemory is other = tt
+can_refuse tool request fault is other = is
 
-pub reading_ok : (P : Command → Type 0) (r : Result Request UsageKind) → IfOk r (λ request. P (command_of request)) → IfOk (reading_of r) P
-reading_ok P (Ok request) is = is
-reading_ok P (Err kind) is = tt
+pub wanting : (tool : Option Tool) (reading : Result Request WordsFault) → CanFail tool words_fault.NoMemory → CanAnswer tool reading status.NoMemory
+wanting (Some tool) reading is = tt
+wanting None reading is = absurd is
 
-can_refuse : (tool : Tool) (fault : Status) → ToolRefuses tool fault → IsOther fault → CanAnswer (Some tool) fault
-can_refuse tool status.Done is other = absurd other
-can_refuse tool (status.Usage kind) is other = absurd other
-can_refuse tool fault is other = is
+misused : (tool : Option Tool) (reading : Result Request WordsFault) (kind : UsageKind) → CanMisuse tool kind → CanAnswer tool reading (status.Usage kind)
+misused tool reading kind is = is
 
-listed : (tool : Option Tool) (reading : Result Command UsageKind) (result : Result (Unit {0}) Status) → IfErr result (CanRefuse reading)
-    → OnOk result (is_ok reading ≡ true) → IfErr reading (CanMisuse tool) → IfOk reading (λ command. tool ≡ Some (tool_for command))
-    → CanAnswer tool (status_of result)
-listed tool (Err kind) (Ok x) refusal taken kinds named = absurd cc
-listed tool (Err kind) (Err fault) refusal taken kinds named = subst (CanAnswer tool) (sym refusal) kinds
-listed tool (Ok command) (Ok x) refusal taken kinds named = subst (λ t. CanAnswer t status.Done) (sym named) tt
-listed tool (Ok command) (Err fault) refusal taken kinds named =
-    subst (λ t. CanAnswer t fault) (sym named) (can_refuse (tool_for command) fault refusal (is_other (tool_for command) fault refusal))
+listed : (tool : Option Tool) (reading : Result Request WordsFault) (result : Result (Unit {0}) Status)
+    → IfOk reading (λ request. is_built request ≡ true) → IfErr result (CanRefuse reading)
+    → OnOk result (is_ok reading ≡ true) → IfErr reading (CanFail tool) → IfOk reading (λ request. tool ≡ Some (tool_for request))
+    → CanAnswer tool reading (status_of result)
+listed tool (Err fault) (Ok x) built refusal taken kinds named = absurd cc
+listed tool (Err (words_fault.Usage kind)) (Err fault) built refusal taken kinds named =
+    subst (CanAnswer tool (Err (words_fault.Usage kind))) (sym refusal) (misused tool (Err (words_fault.Usage kind)) kind kinds)
+listed tool (Err words_fault.NoMemory) (Err fault) built refusal taken kinds named =
+    subst (CanAnswer tool (Err words_fault.NoMemory)) (sym refusal) (wanting tool (Err words_fault.NoMemory) kinds)
+listed tool (Ok request) (Ok x) built refusal taken kinds named = subst (λ t. CanAnswer t (Ok request) status.Done) (sym named) tt
+listed tool (Ok request) (Err fault) built refusal taken kinds named =
+    subst (λ t. CanAnswer t (Ok request) fault) (sym named) (can_refuse (tool_for request) request fault refusal (is_other request fault built refusal))
 
 -- ---- what the program's reply says further
 
-not_done : (reading : Result Command UsageKind) → CanRefuse reading status.Done → ⊥
-not_done (Err kind) is = absurd cc
-not_done (Ok command) is = is_other (tool_for command) status.Done is
+not_done : (reading : Result Request WordsFault) → IfOk reading (λ request. is_built request ≡ true) → CanRefuse reading status.Done → ⊥
+not_done (Err (words_fault.Usage kind)) built is = absurd cc
+not_done (Err words_fault.NoMemory) built is = absurd cc
+not_done (Ok request) built is = is_other request status.Done built is
 
 if_done : (fault : Status) (P : Type 0) → (fault ≡ status.Done → P) → IfDone fault P
 if_done status.Done P f = f refl
 if_done other P f = tt
 
-done_flushed : (reading : Result Command UsageKind) (result : Result (Unit {0}) Status) (P : Type 0) → IfErr result (CanRefuse reading) → OnOk result P
+done_flushed : (reading : Result Request WordsFault) (result : Result (Unit {0}) Status) (P : Type 0)
+    → IfOk reading (λ request. is_built request ≡ true) → IfErr result (CanRefuse reading) → OnOk result P
     → IfDone (status_of result) P
-done_flushed reading (Ok x) P refusal flushed = flushed
-done_flushed reading (Err fault) P refusal flushed = if_done fault P (λ is. absurd (not_done reading (subst (CanRefuse reading) is refusal)))
+done_flushed reading (Ok x) P built refusal flushed = flushed
+done_flushed reading (Err fault) P built refusal flushed = if_done fault P (λ is. absurd (not_done reading built (subst (CanRefuse reading) is refusal)))
 
 status_cause : (R W M : Type 0) (result : Result (Unit {0}) Status) → IfErr result (λ fault. Because (status_origin fault) R W M)
     → Because (status_origin (status_of result)) R W M
@@ -126,37 +157,131 @@ puts_message line old new before after (Err put.Failed) is cause =
 puts_message line old new before after (Err put.NoMemory) is cause =
     record { whole = inr (inr cause.cause); prefix = is.part; counts = record { failures = cause.failures; wants = cause.wants } }
 
--- all of it, for words that were read
-pub replies : {S F O E T : Type 0} (s : shelf.Ghosts S F) (o : sink.Ghosts O) (e : sink.Ghosts E) (words : List (List ℕ))
-    (reading : Result Command UsageKind) (old new : S) (out_old out_new : O) (err_old err_new : E) (result : Result (Unit {0}) Status)
-    (put : Result T PutFault) → reading ≡ command_in words → IfErr reading (CanMisuse (tool_of words))
-    → IfOk reading (λ command. tool_of words ≡ Some (tool_for command))
+-- all of it, for words that were read or refused
+settled : {S F O E T : Type 0} (s : shelf.Ghosts S F) (o : sink.Ghosts O) (e : sink.Ghosts E) (words : List (List ℕ))
+    (reading : Result Request WordsFault) (old new : S) (out_old out_new : O) (err_old err_new : E) (result : Result (Unit {0}) Status)
+    (put : Result T PutFault) → reading ≡ request_in words → IfErr reading (CanFail (tool_in words))
+    → IfOk reading (λ request. tool_in words ≡ Some (tool_for request)) → IfOk reading (λ request. is_built request ≡ true)
     → IfFiles s old (λ files. Does (outcome_for reading files) (status_of result) (o.seen out_old) (o.seen out_new) (s.seen new).files)
     → IfFiles s old (λ files. LeavesFiles reading files (s.seen new).files)
     → MayWriteFiles s o (CanRefuse reading) old new out_old out_new result → OnOk result (is_ok reading ≡ true)
     → KeepsShelf reading (s.seen new ≡ s.seen old)
-    → Put (message_for (tool_of words) reading (status_of result)) (e.seen err_old) put (e.seen err_new)
+    → Put (message_for (tool_in words) reading (status_of result)) (e.seen err_old) put (e.seen err_new)
     → SinkCause (e.faults err_old) (e.faults err_new) put
     → Replies s o e words old new out_old out_new err_old err_new (status_of result)
 unfolding reply
-replies s o e words reading old new out_old out_new err_old err_new result put same kinds named does left runs taken shows message cause =
-    let done : IfFiles s old (λ files. Does (outcome_for (command_in words) files) (status_of result) (o.seen out_old) (o.seen out_new) (s.seen new).files) =
+settled s o e words reading old new out_old out_new err_old err_new result put same kinds named built does left runs taken shows message cause =
+    let done : IfFiles s old (λ files. Does (outcome_for (request_in words) files) (status_of result) (o.seen out_old) (o.seen out_new) (s.seen new).files) =
     λ told. subst (λ r. Does (outcome_for r (s.seen old).files) (status_of result) (o.seen out_old) (o.seen out_new) (s.seen new).files) same (does told) in
     let refusal = subst (λ r. IfErr result (CanRefuse r)) same runs.refusal in
     let read = subst (λ r. OnOk result (is_ok r ≡ true)) same taken in
+    let stands = subst (λ r. IfOk r (λ request. is_built request ≡ true)) same built in
     record {
       does = done;
       line = λ told settled. ap (message_of words) ((done told).status settled);
-      stream = λ told. puts_stream (command_in words) (status_of result) _ _ _ _ (done told);
+      stream = λ told. puts_stream (request_in words) (status_of result) _ _ _ _ (done told);
       left = λ told. subst (λ r. LeavesFiles r (s.seen old).files (s.seen new).files) same (left told);
-      usage = usage_exact (command_in words) result refusal read;
-      listed = listed (tool_of words) reading result runs.refusal taken kinds named;
+      usage = usage_only (request_in words) result stands refusal;
+      refused = λ kind is. inl (usage_always (request_in words) result refusal read kind is);
+      listed = subst (λ r. CanAnswer (tool_in words) r (status_of result)) same (listed (tool_in words) reading result built runs.refusal taken kinds named);
       cause = status_cause _ _ _ result runs.cause;
-      flushed = done_flushed (command_in words) result _ refusal runs.flushed;
-      message = puts_message _ _ _ _ _ put (subst (λ r. Put (message_for (tool_of words) r (status_of result)) (e.seen err_old) put (e.seen err_new)) same message) cause;
+      flushed = done_flushed (request_in words) result _ stands refusal runs.flushed;
+      message = puts_message _ _ _ _ _ put (subst (λ r. Put (message_for (tool_in words) r (status_of result)) (e.seen err_old) put (e.seen err_new)) same message) cause;
       told = runs.told;
       detached = runs.detached;
       shows = subst (λ r. KeepsShelf r (s.seen new ≡ s.seen old)) same shows;
       counts = runs.counts;
       puts = runs.puts;
     }
+
+-- ---- no memory for the words
+
+abbrev no_memory : Result Request WordsFault
+no_memory = Err words_fault.NoMemory
+
+ends_wanting : (result : Result (Unit {0}) Status) → IfErr result (CanRefuse no_memory) → OnOk result (is_ok no_memory ≡ true)
+    → status_of result ≡ status.NoMemory
+ends_wanting (Ok x) refusal taken = absurd cc
+ends_wanting (Err fault) refusal taken = refusal
+
+nothing_put : (before after : SinkState) → PutsPrefix [] before after → after ≡ before
+nothing_put before after is = is.2 ∙ ap (λ bytes. after_put bytes before) (take-nil is.0) ∙ after_put-nil before
+
+cut_off : (outcome : Outcome) (files : Files) (before after : SinkState) (left : Files) (s : Status) → s ≡ status.NoMemory
+    → Does (refused_with status.NoMemory files) s before after left → Does outcome status.NoMemory before after left
+cut_off outcome files before after left s is does = record {
+  status = λ settled. absurd settled;
+  output = λ settled. absurd settled;
+  files = λ settled. absurd settled;
+  prefix = (0, omega arith, nothing_put before after does.prefix ∙ sym (after_put-nil before));
+}
+
+no_stream : (reading : Result Request WordsFault) (files : Files) (before after : SinkState) → PutsIfCat reading status.NoMemory files before after
+no_stream (Ok (request.Cat place kind name file)) files before after = tt
+no_stream other files before after = tt
+
+leaves_same : (reading : Result Request WordsFault) (old new : Files) → new ≡ old → LeavesFiles reading old new
+leaves_same (Ok (request.Make file seed clusters cluster)) old new is = inl is
+leaves_same other old new is = is
+
+keeps_same : (reading : Result Request WordsFault) (P : Type 0) → P → KeepsShelf reading P
+keeps_same (Ok (request.Make file seed clusters cluster)) P is = tt
+keeps_same other P is = is
+
+same_line : (tool : Option Tool) (reading : Result Request WordsFault)
+    → message_for tool (Err words_fault.NoMemory) status.NoMemory ≡ message_for tool reading status.NoMemory
+unfolding line_for
+same_line tool (Ok request) = refl
+same_line tool (Err fault) = refl
+
+unread : {S F O E T : Type 0} (s : shelf.Ghosts S F) (o : sink.Ghosts O) (e : sink.Ghosts E) (words : List (List ℕ)) (old new : S)
+    (out_old out_new : O) (err_old err_new : E) (result : Result (Unit {0}) Status) (put : Result T PutFault) → status_of result ≡ status.NoMemory
+    → CanFail (tool_in words) words_fault.NoMemory
+    → IfFiles s old (λ files. Does (refused_with status.NoMemory files) (status_of result) (o.seen out_old) (o.seen out_new) (s.seen new).files)
+    → IfFiles s old (λ files. (s.seen new).files ≡ files)
+    → MayWriteFiles s o (CanRefuse (Err words_fault.NoMemory)) old new out_old out_new result → s.seen new ≡ s.seen old
+    → Put (message_for (tool_in words) (Err words_fault.NoMemory) (status_of result)) (e.seen err_old) put (e.seen err_new)
+    → SinkCause (e.faults err_old) (e.faults err_new) put
+    → Replies s o e words old new out_old out_new err_old err_new status.NoMemory
+unfolding reply
+unread s o e words old new out_old out_new err_old err_new result put is kinds does left runs shows message cause =
+    let said = subst (λ status. Put (message_for (tool_in words) (Err words_fault.NoMemory) status) (e.seen err_old) put (e.seen err_new)) is message in
+    record {
+      does = λ told. cut_off _ _ _ _ _ (status_of result) is (does told);
+      line = λ told settled. absurd settled;
+      stream = λ told. no_stream (request_in words) _ _ _;
+      left = λ told. leaves_same (request_in words) _ _ (left told);
+      usage = λ kind is. absurd cc;
+      refused = λ kind is. inr refl;
+      listed = wanting (tool_in words) (request_in words) kinds;
+      cause = tt;
+      flushed = tt;
+      message = puts_message _ _ _ _ _ put (subst (λ line. Put line (e.seen err_old) put (e.seen err_new)) (same_line (tool_in words) (request_in words)) said) cause;
+      told = runs.told;
+      detached = runs.detached;
+      shows = keeps_same (request_in words) _ shows;
+      counts = runs.counts;
+      puts = runs.puts;
+    }
+
+-- ---- all of it
+
+pub replies : {S F O E T : Type 0} (s : shelf.Ghosts S F) (o : sink.Ghosts O) (e : sink.Ghosts E) (words : List (List ℕ))
+    (reading : Result Request WordsFault) (old new : S) (out_old out_new : O) (err_old err_new : E) (result : Result (Unit {0}) Status)
+    (put : Result T PutFault) → Reads (request_in words) reading → IfErr reading (CanFail (tool_in words))
+    → IfOk reading (λ request. tool_in words ≡ Some (tool_for request)) → IfOk reading (λ request. is_built request ≡ true)
+    → IfFiles s old (λ files. Does (outcome_for reading files) (status_of result) (o.seen out_old) (o.seen out_new) (s.seen new).files)
+    → IfFiles s old (λ files. LeavesFiles reading files (s.seen new).files)
+    → MayWriteFiles s o (CanRefuse reading) old new out_old out_new result → OnOk result (is_ok reading ≡ true)
+    → KeepsShelf reading (s.seen new ≡ s.seen old)
+    → Put (message_for (tool_in words) reading (status_of result)) (e.seen err_old) put (e.seen err_new)
+    → SinkCause (e.faults err_old) (e.faults err_new) put
+    → Replies s o e words old new out_old out_new err_old err_new (status_of result)
+replies s o e words (Ok request) old new out_old out_new err_old err_new result put reads kinds named built does left runs taken shows message cause =
+    settled s o e words (Ok request) old new out_old out_new err_old err_new result put (sym reads) kinds named built does left runs taken shows message cause
+replies s o e words (Err (words_fault.Usage kind)) old new out_old out_new err_old err_new result put reads kinds named built does left runs taken shows message cause =
+    settled s o e words (Err (words_fault.Usage kind)) old new out_old out_new err_old err_new result put (sym (reads tt)) kinds named built does left runs taken shows message cause
+replies s o e words (Err words_fault.NoMemory) old new out_old out_new err_old err_new result put reads kinds named built does left runs taken shows message cause =
+    let is = ends_wanting result runs.refusal taken in
+    subst (λ status. Replies s o e words old new out_old out_new err_old err_new status) (sym is)
+    (unread s o e words old new out_old out_new err_old err_new result put is kinds does left runs shows message cause)

@@ -13,6 +13,7 @@ use Rattle.ntfs_base.specs.declared.shelf.Shelf as shelf
 use Rattle.ntfs_base.specs.declared.sink.Sink as sink
 use Rattle.ntfs_base.proofs.AttachLemmas.{Rose-added, after_release-attached, has_name-attached}
 use Rattle.ntfs_base.proofs.SinkLemmas.{after_put-nil}
+use Rattle.ntfs_show.specs.Printing.{Printing, Prints, end_of, printing_of}
 use Rattle.ntfs_run.specs.Outcome.{Does, Outcome, MayWriteFiles, OnlyShows, refused_with, shows, status_of, status_origin}
 use Rattle.ntfs_run.specs.declared.status.Status.{Status}
 
@@ -91,33 +92,35 @@ runs_shown s k has old new before after result none shown = record {
   flushed = shown.flushed;
 }
 
-shown_status : (files : Files) (expected : Result (List ℕ) Status) → status_of (without_bytes expected) ≡ (shows files expected).status
-shown_status files (Ok bytes) = refl
-shown_status files (Err fault) = refl
+shown_answer : (expected : Result (List ℕ) Status) → without_bytes expected ≡ end_of (printing_of expected).fault
+shown_answer (Ok bytes) = refl
+shown_answer (Err fault) = refl
 
-shown_output : (files : Files) (expected : Result (List ℕ) Status) → bytes_in expected ≡ (shows files expected).output
-shown_output files (Ok bytes) = refl
-shown_output files (Err fault) = refl
+shown_bytes : (expected : Result (List ℕ) Status) → bytes_in expected ≡ (printing_of expected).output
+shown_bytes (Ok bytes) = refl
+shown_bytes (Err fault) = refl
 
-shown_files : (files : Files) (expected : Result (List ℕ) Status) → files ≡ (shows files expected).files
-shown_files files (Ok bytes) = refl
-shown_files files (Err fault) = refl
+-- bytes that are put or refused, as what is printed
+pub prints_of : (expected : Result (List ℕ) Status) (result : Result (Unit {0}) Status) (before after : SinkState)
+    → Puts status_origin expected before result after → Prints status_origin (printing_of expected) before result after
+prints_of expected result before after is = record {
+  answer = λ settled. is.answer settled ∙ shown_answer expected;
+  output = λ settled. is.output settled ∙ ap (λ bytes. after_put bytes before) (shown_bytes expected);
+  prefix = subst (λ bytes. PutsPrefix bytes before after) (shown_bytes expected) is.prefix;
+}
 
--- what was put is the outcome of a tool that only shows
+-- what was printed is the outcome of a tool that only shows
+pub does_printed : (files left : Files) (expected : Printing Status) (result : Result (Unit {0}) Status) (before after : SinkState)
+    → Prints status_origin expected before result after → left ≡ files → Does (shows files expected) (status_of result) before after left
+does_printed files left expected (Ok x) before after is same =
+    record { status = λ settled. ap status_of (is.answer tt); output = λ settled. is.output tt; files = λ settled. same; prefix = is.prefix }
+does_printed files left expected (Err fault) before after is same =
+    record { status = λ settled. ap status_of (is.answer settled); output = λ settled. is.output settled; files = λ settled. same; prefix = is.prefix }
+
 pub does_shown : (files left : Files) (expected : Result (List ℕ) Status) (result : Result (Unit {0}) Status) (before after : SinkState)
-    → Puts status_origin expected before result after → left ≡ files → Does (shows files expected) (status_of result) before after left
-does_shown files left expected (Ok x) before after is same = record {
-  status = λ settled. ap status_of (is.answer tt) ∙ shown_status files expected;
-  output = λ settled. is.output tt ∙ ap (λ bytes. after_put bytes before) (shown_output files expected);
-  files = λ settled. same ∙ shown_files files expected;
-  prefix = subst (λ bytes. PutsPrefix bytes before after) (shown_output files expected) is.prefix;
-}
-does_shown files left expected (Err fault) before after is same = record {
-  status = λ settled. ap status_of (is.answer settled) ∙ shown_status files expected;
-  output = λ settled. is.output settled ∙ ap (λ bytes. after_put bytes before) (shown_output files expected);
-  files = λ settled. same ∙ shown_files files expected;
-  prefix = subst (λ bytes. PutsPrefix bytes before after) (shown_output files expected) is.prefix;
-}
+    → Puts status_origin expected before result after → left ≡ files → Does (shows files (printing_of expected)) (status_of result) before after left
+does_shown files left expected result before after is same =
+    does_printed files left (printing_of expected) result before after (prints_of expected result before after is) same
 
 -- a refusal that puts nothing and changes no file
 pub does_refused : (outcome : Outcome) (fault : Status) (files left : Files) (before after : SinkState) → after ≡ before → left ≡ files

@@ -1,6 +1,5 @@
--- `ntfscat -i NUM`: the unnamed data stream of a record.
-use Rattle.std.specs.Prelude.{◌≡◌, ℕ, true, List, [], Some, Result, Ok}
-use Rattle.std.specs.Option.{ok_or}
+-- `ntfscat`: a stream of a record.
+use Rattle.std.specs.Prelude.{◌≡◌, ℕ, true, List, [], Option, Some, None, Result, Ok}
 use Rattle.ntfs_base.specs.Bytes.{cluster_at}
 use Rattle.ntfs_base.specs.Frames.{refused_as, ◌>>=◌}
 use Rattle.ntfs_base.specs.Shelf.{Files, file_of}
@@ -8,23 +7,25 @@ use Rattle.ntfs_base.specs.Sink.{SinkState, after_put}
 use Rattle.ntfs_base.specs.declared.refusal.Named.TheVariants as named
 use Rattle.ntfs_show.specs.Cat.{cat_outcome}
 use Rattle.ntfs_stream.specs.StreamBytes.{bytes_of_stream, filled_stream, is_plain}
+use Rattle.ntfs_upcase.specs.Names.{name_bytes}
 use Rattle.ntfs_volume.specs.Opened.{Opened, opened_of}
 use Rattle.ntfs_volume.specs.Streams.{Gathered, gather_of}
-use Rattle.ntfs_run.specs.Outcome.{show_status, volume_status}
+use Rattle.ntfs_words.specs.declared.request.Target.{Target}
+use Rattle.ntfs_run.specs.Outcome.{show_status}
+use Rattle.ntfs_run.specs.Place.{number_meant}
 use Rattle.ntfs_run.specs.declared.status.Status.{Status}
 use Rattle.ntfs_run.specs.declared.status.Status.TheVariants as status
 
--- the bytes of the unnamed data stream of a record of an image
-unfoldable pub record_bytes : List ℕ → ℕ → Result (List ℕ) Status
-record_bytes image number = do
-  volume ← refused_as volume_status (opened_of image)
-  refused_as show_status (cat_outcome volume image number 0x80 [])
+-- the name of a stream in UTF-16LE; without a text it has none
+abbrev pub stream_name : Option (List ℕ) → List ℕ
+stream_name None = []
+stream_name (Some text) = name_bytes text
 
--- the bytes for the image of a name and the number of a record
-unfoldable pub cat_bytes : List ℕ → ℕ → Files → Result (List ℕ) Status
-cat_bytes name number files = do
-  image ← ok_or (file_of files name) (status.Absent named.Image)
-  record_bytes image number
+-- the bytes of the stream of this type and name of the record that is meant of a volume, whose image has these bytes
+unfoldable pub cat_bytes : Target → ℕ → List ℕ → Opened → List ℕ → Result (List ℕ) Status
+cat_bytes place kind name volume image = do
+  number ← number_meant place volume image
+  refused_as show_status (cat_outcome volume image number kind name)
 
 -- the refusals of the tool, once its words are taken
 abbrev pub CatRefuses : Status → Type 0
@@ -40,22 +41,25 @@ CatRefuses status.WriteFault = Unit {0}
 CatRefuses status.NoMemory = Unit {0}
 CatRefuses other = ⊥
 
--- the bytes of the unnamed data stream of a record of an image: the volume opens, the stream is gathered from whichever
--- records hold its extents, it is plain, and its bytes are those of its clusters, with zeros in holes and from the
--- initialised size on (the Linux-NTFS documentation, "$ATTRIBUTE_LIST" and "Attribute Header")
-pub record IsStreamOf (image : List ℕ) (number : ℕ) (bytes : List ℕ) : Type 0 where
+-- the bytes of the stream of this type and name of the record that is meant of an image: the volume opens, the record is
+-- there by its number or its path, the stream is gathered from whichever records hold its extents, it is plain, and its bytes are those of its clusters, with zeros in holes and from
+-- the initialised size on (the Linux-NTFS documentation, "$ATTRIBUTE_LIST" and "Attribute Header")
+pub record IsStreamOf (image : List ℕ) (place : Target) (kind : ℕ) (name bytes : List ℕ) : Type 0 where
   pub volume : Opened
+  pub number : ℕ
   pub found : Gathered ℕ
   pub opened : opened_of image ≡ Ok volume
-  pub gathered : gather_of volume.geometry volume.map (cluster_at image volume.geometry.cluster) number 0x80 []
+  pub meant : number_meant place volume image ≡ Ok number
+  pub gathered : gather_of volume.geometry volume.map (cluster_at image volume.geometry.cluster) number kind name
       ≡ Ok found
   pub plain : is_plain found.stream.flags ≡ true
   pub whole : bytes ≡ bytes_of_stream volume.geometry.cluster (filled_stream volume.geometry image found.stream)
 
 -- the bytes of the stream of a record of the image of a name were put
-pub record PutsStream (name : List ℕ) (number : ℕ) (files : Files) (old new : SinkState) : Type 0 where
+pub record PutsStream (file : List ℕ) (place : Target) (kind : ℕ) (name : List ℕ) (files : Files) (old new : SinkState) :
+    Type 0 where
   pub image : List ℕ
   pub bytes : List ℕ
-  pub held : file_of files name ≡ Some image
-  pub stream : IsStreamOf image number bytes
+  pub held : file_of files file ≡ Some image
+  pub stream : IsStreamOf image place kind name bytes
   pub put : new ≡ after_put bytes old

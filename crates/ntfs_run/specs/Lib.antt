@@ -3,12 +3,14 @@ pub use Rattle.ntfs_base.specs.Shelf
 pub use Rattle.ntfs_base.specs.Source
 pub use Rattle.ntfs_base.specs.Sink
 pub use Rattle.ntfs_boot.specs.Geometry
-pub mod Numbers
 pub mod Code
 pub mod Outcome
 pub mod Info
+pub mod Place
 pub mod Cat
 pub mod Cluster
+pub mod Shown
+pub mod Show
 pub mod Make
 pub mod Command
 pub mod Message

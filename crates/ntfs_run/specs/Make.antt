@@ -1,5 +1,5 @@
 -- `ntfsmake`: a generated volume in a new file.
-use Rattle.std.specs.Prelude.{◌≡◌, ◌⊎◌, ◌&&◌, ◌==◌, ℕ, Bool, List, [], None, Result, Ok, nat_le, if◌then◌else◌}
+use Rattle.std.specs.Prelude.{◌≡◌, ◌⊎◌, ℕ, List, [], None, Result, Ok}
 use Rattle.std.specs.FinMap.{insert}
 use Rattle.std.specs.Option.{is_none}
 use Rattle.ntfs_base.specs.Frames.{must, ◌>>=◌}
@@ -9,15 +9,9 @@ use Rattle.ntfs_make.specs.declared.fault.MakeFault.{MakeFault}
 use Rattle.ntfs_make.specs.declared.fault.MakeFault.TheVariants as fault
 use Rattle.ntfs_make.specs.Left.{IsZeroOrMade}
 use Rattle.ntfs_make.specs.Volume.{volume_bytes_of}
-use Rattle.ntfs_make.specs.Shape.{is_cluster_size}
 use Rattle.ntfs_run.specs.Outcome.{Work}
 use Rattle.ntfs_run.specs.declared.status.Status.{Status}
 use Rattle.ntfs_run.specs.declared.status.Status.TheVariants as status
-
--- the ranges: from 1,024 clusters on, or 2,048 of 512 bytes, up to 1,048,576
-unfoldable pub is_in_range : ℕ → ℕ → Bool
-is_in_range clusters cluster =
-    is_cluster_size cluster && (nat_le (if cluster == 512 then 2048 else 1024) clusters && nat_le clusters 1048576)
 
 -- a refusal of the generator as a status
 abbrev pub make_status : MakeFault → Status

@@ -16,10 +16,14 @@ use Rattle.ntfs_base.specs.declared.refusal.Rule.TheVariants.{C1, C2, C3, C4, C5
 use Rattle.ntfs_base.specs.declared.refusal.Rule.TheVariants.{C14, C15, C16}
 use Rattle.ntfs_base.specs.declared.refusal.UsageKind.{UsageKind}
 use Rattle.ntfs_base.specs.declared.refusal.UsageKind.TheVariants as usage
-use Rattle.ntfs_run.specs.Command.{Command, info, cat, owners, make, command_in, tool_name, tool_of}
+use Rattle.ntfs_words.specs.Tool.{tool_name}
+use Rattle.ntfs_words.specs.declared.request.Request.{Request}
+use Rattle.ntfs_words.specs.declared.request.Request.TheVariants as request
+use Rattle.ntfs_words.specs.declared.request.WordsFault.{WordsFault}
+use Rattle.ntfs_words.specs.declared.tool.Tool.{Tool}
+use Rattle.ntfs_run.specs.Command.{request_in, tool_in}
 use Rattle.ntfs_run.specs.declared.status.Status.{Status}
 use Rattle.ntfs_run.specs.declared.status.Status.TheVariants as status
-use Rattle.ntfs_run.specs.declared.request.Tool.{Tool}
 
 -- a text and a number
 abbrev pub with_number : List ℕ → ℕ → List ℕ
@@ -119,30 +123,30 @@ abbrev pub tool_word : Option Tool → List ℕ
 tool_word None = codes "ntfsprogs"
 tool_word (Some tool) = tool_name tool
 
--- the name of a host file of a command
-abbrev pub file_named : Command → Named → List ℕ
-file_named (info image) named.Image = image
-file_named (cat image number) named.Image = image
-file_named (owners image query) named.Image = image
-file_named (make file seed clusters cluster) named.Output = file
-file_named command other = []
+-- the name of a host file of a request
+abbrev pub file_named : Request → Named → List ℕ
+file_named (request.Info mft number image) named.Image = image
+file_named (request.Cat place kind name image) named.Image = image
+file_named (request.Cluster ask image) named.Image = image
+file_named (request.Make file seed clusters cluster) named.Output = file
+file_named request other = []
 
 -- the name that a status speaks of, for words that were read so
-abbrev pub name_in : Result Command UsageKind → Status → List ℕ
-name_in (Ok command) (status.Absent file) = file_named command file
-name_in (Ok command) (status.Present file) = file_named command file
+abbrev pub name_in : Result Request WordsFault → Status → List ℕ
+name_in (Ok request) (status.Absent file) = file_named request file
+name_in (Ok request) (status.Present file) = file_named request file
 name_in reading other = []
 
 -- the line for a status
-unfoldable pub line_for : Option Tool → Result Command UsageKind → Status → List ℕ
+unfoldable pub line_for : Option Tool → Result Request WordsFault → Status → List ℕ
 line_for tool reading status =
     ((tool_word tool ++ codes ": ") ++ status_text status) ++ (name_in reading status ++ (10 ∷ []))
 
 -- nothing where the work was done
-abbrev pub message_for : Option Tool → Result Command UsageKind → Status → List ℕ
+abbrev pub message_for : Option Tool → Result Request WordsFault → Status → List ℕ
 message_for tool reading status.Done = []
 message_for tool reading other = line_for tool reading other
 
 -- the message of a command line
 abbrev pub message_of : List (List ℕ) → Status → List ℕ
-message_of words status = message_for (tool_of words) (command_in words) status
+message_of words status = message_for (tool_in words) (request_in words) status

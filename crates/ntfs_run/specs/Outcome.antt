@@ -17,14 +17,24 @@ use Rattle.ntfs_base.specs.declared.shelf.Shelf as shelf
 use Rattle.ntfs_base.specs.declared.sink.Sink as sink
 use Rattle.ntfs_boot.specs.declared.volume.ImageFault.{ImageFault}
 use Rattle.ntfs_boot.specs.declared.volume.ImageFault.TheVariants as image
+use Rattle.ntfs_show.specs.Printing.{Printing, end_of}
 use Rattle.ntfs_show.specs.declared.fault.ShowFault.{ShowFault}
 use Rattle.ntfs_show.specs.declared.fault.ShowFault.TheVariants as show
+use Rattle.ntfs_directory.specs.declared.path_fault.PathFault.{PathFault}
+use Rattle.ntfs_directory.specs.declared.path_fault.PathFault.TheVariants as path
 use Rattle.ntfs_volume.specs.declared.fault.VolumeFault.{VolumeFault}
 use Rattle.ntfs_volume.specs.declared.fault.VolumeFault.TheVariants as volume
+use Rattle.ntfs_words.specs.declared.request.WordsFault.{WordsFault}
+use Rattle.ntfs_words.specs.declared.request.WordsFault.TheVariants as words_fault
 use Rattle.ntfs_run.specs.declared.status.Status.{Status}
 use Rattle.ntfs_run.specs.declared.status.Status.TheVariants as status
 
 -- ---- what is done
+
+-- the status of what a tool answers
+abbrev pub status_of : Result (Unit {0}) Status → Status
+status_of (Ok done) = status.Done
+status_of (Err fault) = fault
 
 pub record Outcome : Type 0 where
   pub status : Status
@@ -45,12 +55,17 @@ abbrev pub outcome_of : Files → Result Work Status → Outcome
 outcome_of files (Ok work) = record { status = status.Done; output = work.output; files = work.files }
 outcome_of files (Err fault) = refused_with fault files
 
--- a tool that only shows puts bytes
-abbrev pub shows : Files → Result (List ℕ) Status → Outcome
-shows files (Ok bytes) = record { status = status.Done; output = bytes; files = files }
-shows files (Err fault) = refused_with fault files
+-- a tool that only shows puts bytes, also before a refusal
+abbrev pub shows : Files → Printing Status → Outcome
+shows files printing =
+    record { status = status_of (end_of printing.fault); output = printing.output; files = files }
 
 -- ---- refusals as statuses
+
+-- of words
+abbrev pub words_status : WordsFault → Status
+words_status (words_fault.Usage kind) = status.Usage kind
+words_status words_fault.NoMemory = status.NoMemory
 
 -- of an image
 abbrev pub image_status : ImageFault → Status
@@ -79,6 +94,13 @@ show_status (show.Damaged rule number) = status.Damaged rule number
 show_status show.ReadFault = status.ReadFault
 show_status show.WriteFault = status.WriteFault
 show_status show.NoMemory = status.NoMemory
+
+-- of a path
+abbrev pub path_status : PathFault → Status
+path_status (path.NotFound what) = status.NotFound what
+path_status (path.Damaged rule number) = status.Damaged rule number
+path_status path.ReadFault = status.ReadFault
+path_status path.NoMemory = status.NoMemory
 
 -- of a sink, or of a file that is cut or grows
 abbrev pub put_status : PutFault → Status
@@ -121,11 +143,6 @@ status_origin status.NoMemory = memory
 status_origin other = content
 
 -- ---- answers
-
--- the status of what a tool answers
-abbrev pub status_of : Result (Unit {0}) Status → Status
-status_of (Ok done) = status.Done
-status_of (Err fault) = fault
 
 -- status, output and files are those of the outcome, unless the work was cut off; a prefix of the output was put then
 pub record Does (outcome : Outcome) (result : Status) (before after : SinkState) (left : Files) : Type 0 where

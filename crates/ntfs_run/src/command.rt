@@ -1,18 +1,18 @@
 //! The top call: from the words of a command line to a status, over whatever stands outside.
 ghost use Rattle.std.specs.Prelude.{◌≡◌, [], true, IfOk, OnOk, is_ok, map, string_bytes};
 ghost use Rattle.ntfs_base.specs.Frames.{IfFiles};
-ghost use Rattle.ntfs_run.specs.Command.{HasRanges, command_of, reading_of};
+ghost use Rattle.ntfs_words.specs.Answers.{HasRanges};
+ghost use Rattle.ntfs_run.specs.Command.{is_built};
 ghost use Rattle.ntfs_run.specs.Outcome.{Does, MayWriteFiles, status_of};
 ghost use Rattle.ntfs_run.specs.Reply.{KeepsInput, LeavesFiles, CanRefuse, Replies, KeepsShelf, outcome_for};
 
-use crate::cat::cat;
-use crate::cluster::cluster;
-use crate::info::info;
 use crate::make::{MakeRequest, make_file};
 use crate::message::put_message;
-use crate::request::{Request, read_request, tool_of};
+use crate::request::{read_request, tool_in};
+use crate::show::show;
 use crate::status::Status;
 use ntfs_base::{Shelf, Sink, Source, UsageKind};
+use ntfs_words::{Request, WordsFault};
 use std::alloc::Global;
 
 /// Runs a command line, without the program's own name, over a shelf of files, an input, an output and a sink of
@@ -33,35 +33,40 @@ pub fn run<S: Shelf, I: Source, O: Sink, E: Sink>(
         err.old err.new result }
     ensures input { KeepsInput I.Source input.old input.new }
 {
-    let request = read_request(words);
-    let status = status_of(answer(alloc, request, shelf, out));
-    let _ = put_message(tool_of(words), request, &status, err);
+    let request = read_request(alloc, words);
+    let status = status_of(answer(alloc, &request, shelf, out));
+    let _ = put_message(tool_in(words), &request, &status, err);
     status
 }
 
 /// What the tool of a request answers.
 fn answer<S: Shelf, O: Sink>(
     alloc: Global,
-    request: Result<Request<'_>, UsageKind>,
+    request: &Result<Request, WordsFault>,
     shelf: &mut S,
     out: &mut O,
 ) -> Result<(), Status>
     requires attached { (S.seen shelf.old).attached ≡ [] }
-    requires ranges { IfOk request (λ request. HasRanges (command_of request)) }
-    ensures does { IfFiles S.Shelf shelf.old (λ files. Does (outcome_for (reading_of request.entry) files)
+    requires ranges { IfOk request.now HasRanges }
+    requires built { IfOk request.now (λ request. is_built request ≡ true) }
+    ensures does { IfFiles S.Shelf shelf.old (λ files. Does (outcome_for request.now files)
         (status_of result) (O.seen out.old) (O.seen out.new) (S.seen shelf.new).files) }
-    ensures left { IfFiles S.Shelf shelf.old (λ files.
-        LeavesFiles (reading_of request.entry) files (S.seen shelf.new).files) }
-    ensures runs { MayWriteFiles S.Shelf O.Sink (CanRefuse (reading_of request.entry)) shelf.old shelf.new
-        out.old out.new result }
-    ensures taken { OnOk result (is_ok (reading_of request.entry) ≡ true) }
-    ensures shows { KeepsShelf (reading_of request.entry) (S.seen shelf.new ≡ S.seen shelf.old) }
+    ensures left { IfFiles S.Shelf shelf.old (λ files. LeavesFiles request.now files (S.seen shelf.new).files) }
+    ensures runs { MayWriteFiles S.Shelf O.Sink (CanRefuse request.now) shelf.old shelf.new out.old out.new result }
+    ensures taken { OnOk result (is_ok request.now ≡ true) }
+    ensures shows { KeepsShelf request.now (S.seen shelf.new ≡ S.seen shelf.old) }
 {
     match request {
-        Err(kind) => Err(Status::Usage { kind }),
-        Ok(Request::Info { image }) => info(image, shelf, out),
-        Ok(Request::Cat { image, number }) => cat(alloc, image, number, shelf, out),
-        Ok(Request::Cluster { image, query }) => cluster(alloc, image, query, shelf, out),
+        Err(fault) => Err(Status::from(*fault)),
+        Ok(request @ Request::Info { image, .. }) => {
+            show(alloc, request, image.as_str(), shelf, out)
+        }
+        Ok(request @ Request::Cat { image, .. }) => {
+            show(alloc, request, image.as_str(), shelf, out)
+        }
+        Ok(request @ Request::Cluster { image, .. }) => {
+            show(alloc, request, image.as_str(), shelf, out)
+        }
         Ok(
             Request::Make {
                 file,
@@ -71,13 +76,16 @@ fn answer<S: Shelf, O: Sink>(
             },
         ) => {
             let request = MakeRequest {
-                file,
-                seed,
-                clusters,
-                cluster,
+                file: file.as_str(),
+                seed: *seed,
+                clusters: *clusters,
+                cluster: *cluster,
             };
             make_file(alloc, &request, shelf, out)
         }
+        Ok(_) => Err(Status::Usage {
+            kind: UsageKind::Tool,
+        }),
     }
 }
 

@@ -8,12 +8,13 @@ mod command;
 mod info;
 mod make;
 mod message;
-mod number;
 mod outside;
+mod place;
 mod request;
+mod show;
 mod status;
 
 pub use command::run;
 pub use message::put_message;
-pub use request::{Request, Tool, read_request, tool_of};
+pub use request::{read_request, tool_in};
 pub use status::Status;

@@ -4,14 +4,13 @@ ghost use Rattle.hex.specs.Hex.{encode_lower};
 ghost use Rattle.std.specs.Int.{w16, w32, to_be_bytes};
 ghost use Rattle.ntfs_base.specs.Sink.{Put};
 ghost use Rattle.ntfs_base.specs.Causes.{SinkCause};
-ghost use Rattle.ntfs_run.specs.Command.{command_of, reading_of};
 ghost use Rattle.ntfs_run.specs.Message.{with_number, file_named, flags_text, lack_text, line_for, message_for};
 ghost use Rattle.ntfs_run.specs.Message.{missing_text, name_in, rule_number, rule_text, status_text, tool_word};
 ghost use Rattle.ntfs_run.specs.Message.{type_text, usage_text, without_zeros};
 
-use crate::request::{Request, Tool, tool_name};
 use crate::status::Status;
 use ntfs_base::{Lack, Line, Missing, Named, PutFault, Rule, Sink, UsageKind};
+use ntfs_words::{Request, Tool, WordsFault, tool_name};
 
 /// Appends the text of a status, up to the name of a file.
 #[tactic(auto, unfolding(crate::specs::Message::status_text))]
@@ -242,11 +241,11 @@ fn lack_text(lack: Lack) -> &'static [u8]
 /// Puts the line for a status, and nothing where the work was done. It takes no memory.
 pub fn put_message<E: Sink>(
     tool: Option<Tool>,
-    request: Result<Request<'_>, UsageKind>,
+    request: &Result<Request, WordsFault>,
     status: &Status,
     err: &mut E,
 ) -> Result<(), PutFault>
-    ensures put { Put (message_for tool (reading_of request.entry) status.now) (E.seen err.old) result
+    ensures put { Put (message_for tool request.now status.now) (E.seen err.old) result
         (E.seen err.new) }
     ensures cause { SinkCause (E.faults err.old) (E.faults err.new) result }
 {
@@ -259,11 +258,11 @@ pub fn put_message<E: Sink>(
 #[tactic(auto, unfolding(crate::specs::Message::line_for))]
 fn put_line<E: Sink>(
     tool: Option<Tool>,
-    request: Result<Request<'_>, UsageKind>,
+    request: &Result<Request, WordsFault>,
     status: &Status,
     err: &mut E,
 ) -> Result<(), PutFault>
-    ensures put { Put (line_for tool (reading_of request.entry) status.now) (E.seen err.old) result (E.seen err.new) }
+    ensures put { Put (line_for tool request.now status.now) (E.seen err.old) result (E.seen err.new) }
     ensures cause { SinkCause (E.faults err.old) (E.faults err.new) result }
 {
     let mut front = Line::new();
@@ -301,8 +300,8 @@ fn tool_word(tool: Option<Tool>) -> &'static [u8]
 }
 
 /// The name of the host file that a status speaks of.
-fn name_in<'a>(request: Result<Request<'a>, UsageKind>, status: &Status) -> &'a [u8]
-    ensures { result.now ≡ name_in (reading_of request.entry) status.now }
+fn name_in<'a>(request: &'a Result<Request, WordsFault>, status: &Status) -> &'a [u8]
+    ensures { result.now ≡ name_in request.entry.now status.now }
 {
     match (request, *status) {
         (Ok(request), Status::Absent { file }) => file_named(request, file).as_bytes(),
@@ -312,14 +311,14 @@ fn name_in<'a>(request: Result<Request<'a>, UsageKind>, status: &Status) -> &'a 
 }
 
 /// The name of a host file of a request.
-fn file_named<'a>(request: Request<'a>, file: Named) -> &'a str
-    ensures { result.now ≡ file_named (command_of request.entry) file }
+fn file_named<'a>(request: &'a Request, file: Named) -> &'a str
+    ensures { result.now ≡ file_named request.entry.now file }
 {
     match (request, file) {
-        (Request::Info { image }, Named::Image) => image,
-        (Request::Cat { image, .. }, Named::Image) => image,
-        (Request::Cluster { image, .. }, Named::Image) => image,
-        (Request::Make { file, .. }, Named::Output) => file,
+        (Request::Info { image, .. }, Named::Image) => image.as_str(),
+        (Request::Cat { image, .. }, Named::Image) => image.as_str(),
+        (Request::Cluster { image, .. }, Named::Image) => image.as_str(),
+        (Request::Make { file, .. }, Named::Output) => file.as_str(),
         _ => "",
     }
 }

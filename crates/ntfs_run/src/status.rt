@@ -1,8 +1,11 @@
 use ntfs_base::{Lack, Missing, Named, PutFault, Rule, UsageKind};
 use ntfs_boot::ImageFault;
+use ntfs_directory::PathFault;
 use ntfs_make::MakeFault;
 use ntfs_show::ShowFault;
 use ntfs_volume::VolumeFault;
+use ntfs_words::WordsFault;
+use std::alloc::AllocError;
 
 /// How a command ended.
 #[derive(Clone, Copy, Debug, PartialEq, Eq)]
@@ -83,6 +86,31 @@ impl Status {
     }
 }
 
+impl From<WordsFault> for Status {
+    ghost use Rattle.std.specs.Prelude.{◌≡◌};
+    ghost use Rattle.ntfs_run.specs.Outcome.{words_status};
+
+    ghost from_gives = { λ fault status. status ≡ words_status fault };
+
+    fn from(fault: WordsFault) -> Status {
+        match fault {
+            WordsFault::Usage { kind } => Status::Usage { kind },
+            WordsFault::NoMemory => Status::NoMemory,
+        }
+    }
+}
+
+impl From<AllocError> for Status {
+    ghost use Rattle.std.specs.Prelude.{◌≡◌};
+    ghost use Rattle.ntfs_run.specs.declared.status.Status.TheVariants.{NoMemory};
+
+    ghost from_gives = { λ _ status. status ≡ NoMemory };
+
+    fn from(_error: AllocError) -> Status {
+        Status::NoMemory
+    }
+}
+
 impl From<ImageFault> for Status {
     ghost use Rattle.std.specs.Prelude.{◌≡◌};
     ghost use Rattle.ntfs_run.specs.Outcome.{image_status};
@@ -138,6 +166,22 @@ impl From<ShowFault> for Status {
             ShowFault::ReadFault => Status::ReadFault,
             ShowFault::WriteFault => Status::WriteFault,
             ShowFault::NoMemory => Status::NoMemory,
+        }
+    }
+}
+
+impl From<PathFault> for Status {
+    ghost use Rattle.std.specs.Prelude.{◌≡◌};
+    ghost use Rattle.ntfs_run.specs.Outcome.{path_status};
+
+    ghost from_gives = { λ fault status. status ≡ path_status fault };
+
+    fn from(fault: PathFault) -> Status {
+        match fault {
+            PathFault::NotFound { what } => Status::NotFound { what },
+            PathFault::Damaged { rule, number } => Status::Damaged { rule, number },
+            PathFault::ReadFault => Status::ReadFault,
+            PathFault::NoMemory => Status::NoMemory,
         }
     }
 }

@@ -91,6 +91,11 @@ impl<'a> Case<'a> {
         Case { image, ..self }
     }
 
+    /// The same with other bytes on the output.
+    pub fn with_output(self, output: &'a [u8]) -> Case<'a> {
+        Case { output, ..self }
+    }
+
     /// The same with another refusal.
     pub fn with_refusal(self, status: Status, line: &'a str) -> Case<'a> {
         Case {

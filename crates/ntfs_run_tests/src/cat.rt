@@ -1,6 +1,6 @@
 //! `ntfscat` over the small volume.
 use crate::case::{Case, Image, all_answer};
-use crate::statuses::{LINE, NO_IMAGE, NUMBER, damage_of, no_record, not_plain};
+use crate::statuses::{COMBINATION, LINE, NO_IMAGE, NUMBER, damage_of, no_record, not_plain};
 use crate::volume::{
     Attribute, DATA, FIRST, IN_USE, LIST, Record, SMALL_LEN, bare_volume, small_volume, two_runs,
     zeros,
@@ -454,7 +454,8 @@ fn spellings_are_no_numbers(rt: HostRuntime) -> Result<(), Fail> {
     let cases = [
         refused.with_words(&["ntfscat", "-i", "", "v"]),
         refused.with_words(&["ntfscat", "-i", "+16", "v"]),
-        refused.with_words(&["ntfscat", "-i", "-16", "v"]),
+        refused.with_words(&["ntfscat", "-i-16", "v"]),
+        refused.with_words(&["ntfscat", "--inode=-16", "v"]),
         refused.with_words(&["ntfscat", "-i", "16 ", "v"]),
         refused.with_words(&["ntfscat", "-i", "1_6", "v"]),
         refused.with_words(&["ntfscat", "-i", "0x", "v"]),
@@ -485,9 +486,11 @@ fn long_and_odd_spellings_are_no_numbers(rt: HostRuntime) -> Result<(), Fail> {
     all_answer(&rt, alloc, &base, &cases)
 }
 
+/// A word that begins with a hyphen is an option, where none stands before it that takes it whole.
 #[test]
 fn words_of_ntfscat_are_refused(rt: HostRuntime) -> Result<(), Fail> {
     let line = Case::refuses(&TWENTY, Image::of(0), LINE, 1, "ntfscat: usage: line\n");
+    let both = line.with_refusal(COMBINATION, "ntfscat: usage: combination\n");
     let absent = Case::refuses(
         &TWENTY,
         Image::of(0),
@@ -498,10 +501,15 @@ fn words_of_ntfscat_are_refused(rt: HostRuntime) -> Result<(), Fail> {
     let cases = [
         line.with_words(&["ntfscat"]),
         line.with_words(&["ntfscat", "-i", "16"]),
+        line.with_words(&["ntfscat", "-i", "-16", "v"]),
         line.with_words(&["ntfscat", "-m", "16", "v"]),
         line.with_words(&["ntfscat", "-i", "16", "-v"]),
-        line.with_words(&["ntfscat", "-i", "16", "v", "v"]),
+        line.with_words(&["ntfscat", "-i", "16", "-i", "16", "v"]),
+        both.with_words(&["ntfscat", "v"]),
+        both.with_words(&["ntfscat", "-i", "16", "v", "v"]),
+        both.with_words(&["ntfscat", "-i", "1x", "v", "v"]),
         absent.with_words(&["ntfscat", "-i", "16", "w"]),
+        absent.with_words(&["ntfscat", "w", "-i16"]),
     ];
     all_answer(&rt, rt.alloc(), b"", &cases)
 }

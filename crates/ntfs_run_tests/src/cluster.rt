@@ -1,6 +1,6 @@
 //! `ntfscluster` over a volume that `ntfsmake` makes: 1,024 clusters of 4,096 bytes.
 use crate::case::{Case, Image, NO_FAULT, all_answer, all_follow, run_over};
-use crate::statuses::{LINE, NO_IMAGE, damage_of};
+use crate::statuses::{COMBINATION, LINE, NO_IMAGE, NUMBER, damage_of};
 use crate::volume::BOOT_LEN;
 use ntfs_base::{MemShelf, Rule};
 use ntfs_run::Status;
@@ -18,13 +18,16 @@ fn clusters_of_a_made_volume_are_counted(rt: HostRuntime) -> Result<(), Fail> {
     let alloc = rt.alloc();
     let mut shelf = MemShelf::new(alloc);
     let empty = Image::of(0);
+    let summary = Case::puts(
+        &INFO,
+        empty,
+        b"clusters: 1024\nowned: 119\nbad: 1\nfree: 905\n",
+    );
     let cases = [
         Case::puts(&MAKE, empty, b""),
-        Case::puts(
-            &INFO,
-            empty,
-            b"clusters: 1024\nowned: 119\nbad: 1\nfree: 905\n",
-        ),
+        summary,
+        summary.with_words(&["ntfscluster", "--info", "v"]),
+        summary.with_words(&["ntfscluster", "v", "-i"]),
     ];
     all_follow(&rt, alloc, &mut shelf, &cases)
 }
@@ -33,6 +36,8 @@ fn clusters_of_a_made_volume_are_counted(rt: HostRuntime) -> Result<(), Fail> {
 fn words_and_images_are_refused(rt: HostRuntime) -> Result<(), Fail> {
     let empty = Image::of(0);
     let line = Case::refuses(&INFO, empty, LINE, 1, "ntfscluster: usage: line\n");
+    let both = line.with_refusal(COMBINATION, "ntfscluster: usage: combination\n");
+    let number = line.with_refusal(NUMBER, "ntfscluster: usage: number\n");
     let absent = Case::refuses(&INFO, empty, NO_IMAGE, 2, "ntfscluster: no such file: w\n");
     let cases = [
         line.with_words(&["ntfscluster"]),
@@ -40,6 +45,11 @@ fn words_and_images_are_refused(rt: HostRuntime) -> Result<(), Fail> {
         line.with_words(&["ntfscluster", "i", "v"]),
         line.with_words(&["ntfscluster", "-i", "-v"]),
         line.with_words(&["ntfscluster", "-i", "v", "w"]),
+        line.with_words(&["ntfscluster", "-ii", "v"]),
+        both.with_words(&["ntfscluster", "v"]),
+        both.with_words(&["ntfscluster", "-i", "-c", "1-x", "v"]),
+        number.with_words(&["ntfscluster", "-c", "1-x", "v"]),
+        number.with_words(&["ntfscluster", "-I", "0X1", "v"]),
         absent.with_words(&["ntfscluster", "-i", "w"]),
         Case::refuses(
             &INFO,

@@ -1,7 +1,8 @@
 //! `ntfsinfo`, and words that name no tool.
-use crate::case::{Case, Image, all_answer};
-use crate::statuses::{LINE, NO_IMAGE, TOOL, bad_geometry, image_short};
+use crate::case::{Case, Image, NO_FAULT, all_answer, all_follow, run_over};
+use crate::statuses::{LINE, NO_IMAGE, TOOL, bad_geometry, damage_of, image_short, no_record};
 use crate::volume::{BOOT, BOOT_LEN, image_of};
+use ntfs_base::{MemShelf, Rule};
 use ntfs_run::Status;
 use std::test::Fail;
 
@@ -150,4 +151,61 @@ fn each_field_is_refused(rt: HostRuntime) -> Result<(), Fail> {
     ];
     let base = image_of(alloc, 512, &BOOT).ok_or("no image")?;
     all_answer(&rt, alloc, &base, &cases)
+}
+
+const MAKE: [&str; 5] = ["ntfsmake", "v", "0", "1024", "4096"];
+
+const RECORD_16: &[u8] = b"record: 16\n\
+    sequence: 1\n\
+    links: 1\n\
+    flags: 1\n\
+    base: 0\n\
+    bytes in use: 320\n\
+    0x10 \"\" resident 72\n\
+    0x30 \"\" resident 90\n\
+    0x80 \"\" resident 12\n";
+
+/// An extension, whose base record is 21 with sequence number 1.
+const RECORD_22: &[u8] = b"record: 22\n\
+    sequence: 1\n\
+    links: 0\n\
+    flags: 1\n\
+    base: 281474976710677\n\
+    bytes in use: 136\n";
+
+#[test]
+fn records_are_printed(rt: HostRuntime) -> Result<(), Fail> {
+    let alloc = rt.alloc();
+    let mut shelf = MemShelf::new(alloc);
+    let empty = Image::of(0);
+    let record = Case::puts(&[], empty, RECORD_16);
+    let missing = Case::refuses(&[], empty, no_record(12), 7, "ntfsinfo: not found: record 12\n");
+    let cases = [
+        Case::puts(&MAKE, empty, b""),
+        record.with_words(&["ntfsinfo", "-i", "16", "v"]),
+        record.with_words(&["ntfsinfo", "v", "--inode=0x10"]),
+        missing.with_words(&["ntfsinfo", "-i12", "v"]),
+    ];
+    all_follow(&rt, alloc, &mut shelf, &cases)
+}
+
+/// The lines above the attribute whose pairs are wrong stand on the output.
+#[test]
+fn a_damaged_record_is_printed_in_part(rt: HostRuntime) -> Result<(), Fail> {
+    let alloc = rt.alloc();
+    let made = run_over(alloc, &MAKE, None, NO_FAULT)?;
+    let base = made.shelf.content("v").ok_or("no file")?;
+    let pairs = [(0x8878, b"\x91".as_slice())];
+    let damage = Case::refuses(
+        &["ntfsinfo", "-i", "22", "v"],
+        Image::of(BOOT_LEN).with_bytes(&pairs),
+        damage_of(Rule::C7, 22),
+        4,
+        "ntfsinfo: damaged: rule C7 record 22\n",
+    );
+    let cases = [Case {
+        output: RECORD_22,
+        ..damage
+    }];
+    all_answer(&rt, alloc, base, &cases)
 }

@@ -25,3 +25,5 @@ mod message;
 mod statuses;
 #[cfg(test)]
 mod volume;
+#[cfg(test)]
+mod words;

@@ -1,23 +1,34 @@
 //! The message line of each status.
 use crate::statuses::{
-    LINE, NO_IMAGE, NUMBER, TOOL, bad_geometry, damage_of, guarded_refusal, image_short,
-    no_geometry, no_record, not_plain,
+    COMBINATION, LINE, NO_IMAGE, NUMBER, TOOL, bad_geometry, damage_of, guarded_refusal,
+    image_short, no_geometry, no_record, not_plain,
 };
 use ntfs_base::{Lack, MemSink, Missing, Named, Rule, UsageKind};
-use ntfs_run::{Request, Status, Tool, put_message};
-use std::alloc::Global;
+use ntfs_run::{Status, put_message};
+use ntfs_words::{Request, Text, Tool, WordsFault};
+use std::alloc::{AllocError, Global};
 use std::process::Abort;
 use std::test::Fail;
 
 /// A status, its code and its text.
 type Row<'a> = (Status, u8, &'a str);
 
+/// A request of `ntfsinfo`.
+fn request(alloc: Global) -> Result<Result<Request, WordsFault>, AllocError> {
+    let image = Text::new(alloc, "v")?;
+    Ok(Ok(Request::Info {
+        mft: true,
+        number: None,
+        image,
+    }))
+}
+
 /// The message line of a status, for a command line of `ntfsinfo`.
 fn says(rt: &impl Abort, alloc: Global, row: &Row) -> Result<(), Fail> {
     let (status, code, text) = *row;
-    let request = Request::Info { image: "v" };
+    let request = request(alloc)?;
     let mut err = MemSink::new(alloc);
-    put_message(Some(Tool::Info), Ok(request), &status, &mut err)
+    put_message(Some(Tool::Info), &request, &status, &mut err)
         .ok()
         .ok_or("a fault")?;
     assert_eq!(rt; status.code(), code);
@@ -37,19 +48,16 @@ fn all_say(rt: &impl Abort, alloc: Global, rows: &[Row]) -> Result<(), Fail> {
 
 #[test]
 fn nothing_is_said_of_work_that_is_done(rt: HostRuntime) -> Result<(), Fail> {
-    let mut err = MemSink::new(rt.alloc());
-    let request = Request::Info { image: "v" };
-    put_message(Some(Tool::Info), Ok(request), &Status::Done, &mut err)
+    let alloc = rt.alloc();
+    let mut err = MemSink::new(alloc);
+    let request = request(alloc)?;
+    put_message(Some(Tool::Info), &request, &Status::Done, &mut err)
         .ok()
         .ok_or("a fault")?;
     assert_eq!(rt; err.content.len(), 0);
     assert_eq!(rt; Status::Done.code(), 0);
     Ok(())
 }
-
-const COMBINATION: Status = Status::Usage {
-    kind: UsageKind::Combination,
-};
 
 const SAME_NAME: Status = Status::Usage {
     kind: UsageKind::SameName,

@@ -10,6 +10,10 @@ pub const LINE: Status = Status::Usage {
     kind: UsageKind::Line,
 };
 
+pub const COMBINATION: Status = Status::Usage {
+    kind: UsageKind::Combination,
+};
+
 pub const NUMBER: Status = Status::Usage {
     kind: UsageKind::Number,
 };

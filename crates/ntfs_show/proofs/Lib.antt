@@ -11,3 +11,7 @@ pub mod ListStateLemmas
 pub mod UnmetLemmas
 pub mod DescentLemmas
 pub mod ListPathLemmas
+pub mod HeldLemmas
+pub mod ScanLemmas
+pub mod LineLemmas
+pub mod FileLemmas

@@ -15,10 +15,10 @@ use Rattle.ntfs_volume.specs.Opened.{Opened}
 use Rattle.ntfs_volume.specs.declared.fault.VolumeFault.{VolumeFault}
 use Rattle.ntfs_volume.specs.declared.fault.VolumeFault.TheVariants as volume
 use Rattle.ntfs_show.specs.Fault.{gather_refusal, show_origin}
-use Rattle.ntfs_show.specs.Owners.{are_bad_in, record_attributes, bad_clusters_record, is_bad_in, is_bad_stream, none_if_absent, owners_outcome, owns, runs_have, summary_lines, volume_summary}
+use Rattle.ntfs_show.specs.Owners.{are_bad_in, record_attributes, bad_clusters_record, is_bad_in, is_bad_stream, file_outcome, none_if_absent, owners_outcome, owns, runs_have, summary_lines, summary_outcome, volume_summary}
 use Rattle.ntfs_show.specs.declared.fault.ShowFault.{ShowFault}
 use Rattle.ntfs_show.specs.declared.owner_query.OwnerQuery.{OwnerQuery}
-use Rattle.ntfs_show.specs.declared.owner_query.OwnerQuery.TheVariants.{Info}
+use Rattle.ntfs_show.specs.declared.owner_query.OwnerQuery.TheVariants as query
 use Rattle.ntfs_show.specs.declared.owner_query.Summary.{Summary}
 use Rattle.ntfs_show.proofs.CoverLemmas.{or-false}
 
@@ -116,12 +116,21 @@ survey-gave o f owners is = by_survey (volume_survey o f) is
     by_survey (Ok found) is = cc
     by_survey (Err fault) is = absurd cc
 
-pub info-refused : (o : Opened) (content : List ℕ) (query : OwnerQuery) (fault : ShowFault) → volume_summary o (cluster_at content o.geometry.cluster) ≡ Err fault
-    → owners_outcome o content query ≡ Err fault
-unfolding owners_outcome
-info-refused o content Info fault is = rw is refl
+pub summary-unprinted : (o : Opened) (f : ℕ → List ℕ) (fault : ShowFault) → volume_summary o f ≡ Err fault → summary_outcome o f ≡ Err fault
+unfolding summary_outcome
+summary-unprinted o f fault is = rw is refl
 
-pub info-found : (o : Opened) (content : List ℕ) (query : OwnerQuery) (summary : Summary) → volume_summary o (cluster_at content o.geometry.cluster) ≡ Ok summary
-    → owners_outcome o content query ≡ Ok (summary_lines summary)
+pub summary-printed : (o : Opened) (f : ℕ → List ℕ) (summary : Summary) → volume_summary o f ≡ Ok summary → summary_outcome o f ≡ Ok (summary_lines summary)
+unfolding summary_outcome
+summary-printed o f summary is = rw is refl
+
+-- ---- what is asked
+
+pub info-outcome : (o : Opened) (content : List ℕ) (asked : OwnerQuery) → asked ≡ query.Info → owners_outcome o content asked ≡ summary_outcome o (cluster_at content o.geometry.cluster)
 unfolding owners_outcome
-info-found o content Info summary is = rw is refl
+info-outcome o content asked is = ap (owners_outcome o content) is
+
+pub number-outcome : (o : Opened) (content : List ℕ) (asked : OwnerQuery) (number : ℕ) → asked ≡ query.Number number
+    → owners_outcome o content asked ≡ file_outcome o (cluster_at content o.geometry.cluster) number
+unfolding owners_outcome
+number-outcome o content asked number is = ap (owners_outcome o content) is

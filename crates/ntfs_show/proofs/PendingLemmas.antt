@@ -1,9 +1,9 @@
 -- What is printed by way of a buffer, text by text.
-use Rattle.std.proofs.Common.{◌≡◌, ◌≤◌, ◌+◌, ℕ, List, [], ◌++◌, length, take, refl, sym, ap, ◌∙◌, subst, arith, length-append, append_assoc, Result, Ok, Err, Option, Some, None}
+use Rattle.std.proofs.Common.{◌≡◌, ◌+◌, ℕ, List, [], ◌++◌, length, take, refl, sym, ap, ap₂, ◌∙◌, subst, arith, length-append, append_assoc, Result, Ok, Err, Some}
 use Rattle.std.proofs.Math.Seq.{take-append-add}
 use Rattle.std.proofs.lemmas.List.{append-nil, take-append-le, take_all}
 use Rattle.ntfs_base.specs.Frames.{IsSettled, Origin, Puts, PutsPrefix}
-use Rattle.ntfs_base.specs.Sink.{Put, SinkState, after_put}
+use Rattle.ntfs_base.specs.Sink.{SinkState, after_put}
 use Rattle.ntfs_base.proofs.SinkLemmas.{after_put-append, after_put-nil}
 use Rattle.ntfs_show.specs.Pending.{IsPrinted, Pushes}
 use Rattle.ntfs_show.specs.Printing.{Printing, Prints, end_of, printing_of}
@@ -169,3 +169,46 @@ pub puts-prints : {E : Type 0} (origin : E → Origin) (expected : Result (List 
     → Puts origin expected old result new → Prints origin (printing_of expected) old result new
 puts-prints origin (Ok bytes) old result new is = record { answer = is.answer; output = is.output; prefix = is.prefix }
 puts-prints origin (Err fault) old result new is = record { answer = is.answer; output = is.output; prefix = is.prefix }
+
+-- ---- loops that print
+
+-- some of the text was printed behind what waited, and this is the rest of it
+pub record IsUnderWay (all rest waiting : List ℕ) (before : SinkState) (held : List ℕ) (after : SinkState) : Type 0 where
+  pub done : List ℕ
+  pub parts : all ≡ done ++ rest
+  pub so_far : IsPrinted (waiting ++ done) before held after
+
+pub way-start : (all waiting : List ℕ) (sink : SinkState) → IsUnderWay all all waiting sink waiting sink
+way-start all waiting sink = record { done = []; parts = refl; so_far = printed-kept (waiting ++ []) waiting sink (sym (append-nil waiting)) }
+
+-- a turn
+pub way-next : {T E : Type 0} (all rest text more waiting held kept : List ℕ) (before now after : SinkState) (x : T) → rest ≡ text ++ more → IsUnderWay all rest waiting before held now
+    → Pushes {E = E} text held now (Ok x) kept after → IsUnderWay all more waiting before kept after
+way-next all rest text more waiting held kept before now after x is way next = record {
+  done = way.done ++ text;
+  parts = way.parts ∙ ap (λ xs. way.done ++ xs) is ∙ sym (append_assoc way.done text more);
+  so_far = subst (λ xs. IsPrinted xs before kept after) (append_assoc waiting way.done text) (printed-step (waiting ++ way.done) text held kept before now after way.so_far next.whole);
+}
+
+-- a turn that was cut off
+pub way-cut : {T D E : Type 0} (all rest text more waiting held kept last : List ℕ) (before now after : SinkState) (d : D) (e : E) → rest ≡ text ++ more → IsUnderWay all rest waiting before held now
+    → Pushes {T = T} text held now (Err d) kept after → Pushes {T = T} all waiting before (Err e) last after
+way-cut all rest text more waiting held kept last before now after d e is way next = record {
+  whole = tt;
+  part = printed-cut (waiting ++ all) (waiting ++ way.done) text more held before now after
+      (ap (λ xs. waiting ++ xs) (way.parts ∙ ap (λ xs. way.done ++ xs) is) ∙ sym (append_assoc waiting way.done (text ++ more)) ∙ sym (append_assoc (waiting ++ way.done) text more)) way.so_far next.part;
+}
+
+-- the end
+pub way-end : {T E : Type 0} (all rest waiting held : List ℕ) (before after : SinkState) (x : T) → rest ≡ [] → IsUnderWay all rest waiting before held after
+    → Pushes {E = E} all waiting before (Ok x) held after
+way-end all rest waiting held before after x none way = record {
+  whole = subst (λ xs. IsPrinted (waiting ++ xs) before held after) (sym (way.parts ∙ ap (λ xs. way.done ++ xs) none ∙ append-nil way.done)) way.so_far;
+  part = tt;
+}
+
+-- two texts by other words
+pub pushes-same : {T U E : Type 0} (a b x y waiting held kept : List ℕ) (before now after : SinkState) (u : U) (result : Result T E) → x ≡ a → y ≡ b
+    → Pushes {E = E} x waiting before (Ok u) held now → Pushes y held now result kept after → Pushes (a ++ b) waiting before result kept after
+pushes-same a b x y waiting held kept before now after u result is same one two =
+    subst (λ text. Pushes text waiting before result kept after) (ap₂ (λ x y. x ++ y) is same) (pushes-then x y waiting held kept before now after u result one two)

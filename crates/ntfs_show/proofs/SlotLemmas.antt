@@ -148,3 +148,23 @@ survey-whole o f owners r some is = by_raw (raw_record o.geometry o.map f r) ref
     by_raw : (raw : Option (List ℕ)) → raw_record o.geometry o.map f r ≡ raw → is_whole (record_at o f r) ≡ true
     by_raw None none = ap (λ raw. is_whole (located_slot r raw)) none ∙ whole-none r
     by_raw (Some raw) there = whole-below o f owners r is (within o.geometry o.map f r raw some there)
+
+-- a record that was read is in use, and tells its sequence number
+pub read-live : (o : Opened) (f : ℕ → List ℕ) (r : ℕ) (block : List ℕ) (file : FileRecord) → read_of o.geometry o.map f r ≡ Ok block → parse_of block ≡ Ok file
+    → ((record_at o f r).is_live ≡ true) × (file.head.sequence ≡ (record_at o f r).head.sequence)
+read-live o f r block file read is =
+    let told : Tells (record_at o f r) (Ok block) = subst (Tells (record_at o f r)) read (tells o f r) in
+    let same : told.0 ≡ file = same-ok (sym told.1 ∙ is) in
+    (ap (λ (slot : Record). slot.is_live) told.2, sym (ap (λ (slot : Record). slot.head.sequence) told.2 ∙ ap (λ (file : FileRecord). file.head.sequence) same))
+  where
+    same-ok : {x y : FileRecord} → ◌≡◌ {A = Result FileRecord RecordFault} (Ok x) (Ok y) → x ≡ y
+    same-ok is = cc
+
+-- one that is right is refused only where it isn't in use
+pub read-idle : (o : Opened) (f : ℕ → List ℕ) (r : ℕ) (fault : VolumeFault) → is_whole (record_at o f r) ≡ true → read_of o.geometry o.map f r ≡ Err fault
+    → (fault ≡ volume.Absent) × ((record_at o f r).is_live ≡ false)
+read-idle o f r fault whole read = by_case (subst (Tells (record_at o f r)) read (tells o f r))
+  where
+    by_case : Tells (record_at o f r) (Err fault) → (fault ≡ volume.Absent) × ((record_at o f r).is_live ≡ false)
+    by_case (inl (absent, baad, is)) = (absent, ap (λ (slot : Record). slot.is_live) is)
+    by_case (inr broken) = absurd cc

@@ -5,6 +5,8 @@ pub mod Info
 pub mod Label
 pub mod Printing
 pub mod Cat
+pub mod Held
+pub mod OwnerLines
 pub mod Owners
 pub mod Pending
 pub mod RecordInfo

@@ -3,6 +3,9 @@
 
 mod cover;
 mod fault;
+mod file_runs;
+mod held;
+mod holding;
 mod info;
 mod label;
 mod list_line;
@@ -10,9 +13,11 @@ mod list_options;
 mod list_path;
 mod list_walk;
 mod listing;
+mod owner_lines;
 mod owner_query;
 mod pending;
 mod record_info;
+mod reread;
 mod streams;
 
 pub use fault::ShowFault;

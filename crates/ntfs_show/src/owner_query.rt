@@ -1,18 +1,20 @@
 //! Who owns the clusters of a volume, as it is printed.
 
-ghost use Rattle.std.specs.Prelude.{◌≡◌, ◌≤◌, ◌||◌, ◌<◌, ℕ, length, true, map, IfOk, OnOk, Ok};
+ghost use Rattle.std.specs.Prelude.{◌≡◌, ◌≤◌, ◌||◌, ◌<◌, ℕ, length, true, map, IfErr, IfOk, OnOk, Ok};
 ghost use Rattle.ntfs_base.specs.Bytes.{cluster_at};
 ghost use Rattle.ntfs_base.specs.Frames.{Copies, Gives, IfTold, OnlyPuts, OnlyReads, Puts, refused_as};
 ghost use Rattle.ntfs_bitmap.specs.ClusterSet.{bound_of, count_where, has};
 ghost use Rattle.ntfs_record.specs.Views.{placed_of, shown_body, shown_placed, shown_view};
 ghost use Rattle.ntfs_show.specs.Fault.{gather_refusal, show_origin};
-ghost use Rattle.ntfs_show.specs.Owners.{are_bad_in, record_attributes, bad_name, bad_clusters_record, is_bad_in, is_bad_stream, none_if_absent, owners_outcome, runs_have, summary_lines, volume_summary};
+ghost use Rattle.ntfs_show.specs.Owners.{are_bad_in, record_attributes, bad_name, bad_clusters_record, is_bad_in, is_bad_stream, none_if_absent, owners_outcome, runs_have, summary_lines, summary_outcome, volume_summary, IsOwnersFault};
+ghost use Rattle.ntfs_show.specs.declared.owner_query.OwnerQuery.{OwnerQuery};
 ghost use Rattle.ntfs_survey.specs.Owned.{is_whole, runs_in, volume_survey};
 ghost use Rattle.ntfs_survey.specs.Surveying.{record_at};
 ghost use Rattle.ntfs_volume.specs.Opened.{HasClusters};
 
 use crate::cover::{add_runs, owned_count};
 use crate::fault::{ShowFault, gather_refusal};
+use crate::file_runs::{read_refusal, show_file};
 use crate::info::{Label, push_number_line};
 use crate::streams::zeros;
 use ntfs_base::{Image, Line, Rule, Sink};
@@ -28,6 +30,8 @@ use std::alloc::{AllocError, Global};
 pub enum OwnerQuery {
     /// How many clusters there are, are owned, are bad and are free.
     Info,
+    /// The runs of the attributes of a record and of its extension records.
+    Number { number: u64 },
 }
 
 /// How many clusters there are, and how many of them a record in use owns, and how many are bad, each counted once.
@@ -53,11 +57,16 @@ fn bad_name() -> &'static [u8]
 }
 
 /// Surveys a volume.
-fn surveyed<G: Image>(alloc: Global, image: &mut G, table: &Table) -> Result<Survey, ShowFault>
+pub(crate) fn surveyed<G: Image>(
+    alloc: Global,
+    image: &mut G,
+    table: &Table,
+) -> Result<Survey, ShowFault>
     requires held { HasClusters (G.seen image.old).size table.now }
     ensures gives { IfTold G.Image image.old (λ content. Gives show_origin (λ survey. survey)
         (refused_as (gather_refusal 0) (volume_survey table.now (cluster_at content table.now.geometry.cluster)))
         result) }
+    ensures listed { (query : OwnerQuery) → IfErr result (IsOwnersFault query) }
     ensures reads { OnlyReads G.Image show_origin image.old image.new result }
 {
     match survey(alloc, image, table) {
@@ -134,11 +143,12 @@ fn bad_in_record(alloc: Global, view: &RecordView<'_>, bound: u64) -> Result<u64
 
 /// None are counted in the record of a number that isn't in use; another refusal to read it stays one.
 fn none_if_absent(fault: VolumeFault, number: u64) -> Result<u64, ShowFault>
-    ensures { result ≡ none_if_absent number fault }
+    ensures value { result ≡ none_if_absent number fault }
+    ensures listed { (query : OwnerQuery) → IfErr result (IsOwnersFault query) }
 {
     match fault {
         VolumeFault::Absent => Ok(0),
-        other => Err(gather_refusal(other, number)),
+        other => Err(read_refusal(other, number)),
     }
 }
 
@@ -155,6 +165,7 @@ fn bad_by_record<G: Image>(
         is_whole (record_at table.now (cluster_at content table.now.geometry.cluster) bad_clusters_record) ≡ true
         → Gives show_origin (λ count. count) (Ok (count_where (are_bad_in (record_attributes table.now
         (cluster_at content table.now.geometry.cluster) bad_clusters_record)) table.now.geometry.clusters)) result) }
+    ensures listed { (query : OwnerQuery) → IfErr result (IsOwnersFault query) }
     ensures reads { OnlyReads G.Image show_origin image.old image.new result }
 {
     match table.read_record(image, BAD_RECORD, block) {
@@ -176,6 +187,7 @@ fn bad_count<G: Image>(alloc: Global, image: &mut G, table: &Table) -> Result<u6
         is_whole (record_at table.now (cluster_at content table.now.geometry.cluster) bad_clusters_record) ≡ true
         → Gives show_origin (λ count. count) (Ok (count_where (are_bad_in (record_attributes table.now
         (cluster_at content table.now.geometry.cluster) bad_clusters_record)) table.now.geometry.clusters)) result) }
+    ensures listed { (query : OwnerQuery) → IfErr result (IsOwnersFault query) }
     ensures reads { OnlyReads G.Image show_origin image.old image.new result }
 {
     let mut block = zeros(alloc, table.geometry().record_size as usize)?;
@@ -188,6 +200,7 @@ fn count_all<G: Image>(alloc: Global, image: &mut G, table: &Table) -> Result<Su
     ensures gives { IfTold G.Image image.old (λ content. Gives show_origin (λ summary. summary)
         (volume_summary table.now (cluster_at content table.now.geometry.cluster)) result) }
     ensures fits { IfOk result (λ summary. summary.owned ≤ summary.clusters) }
+    ensures listed { (query : OwnerQuery) → IfErr result (IsOwnersFault query) }
     ensures reads { OnlyReads G.Image show_origin image.old image.new result }
 {
     let survey = surveyed(alloc, image, table)?;
@@ -218,6 +231,7 @@ fn summary_text(summary: &Summary) -> Line
 fn put_summary<K: Sink>(summary: &Summary, out: &mut K) -> Result<(), ShowFault>
     requires { summary.now.owned ≤ summary.now.clusters }
     ensures puts { Puts show_origin (Ok (summary_lines summary.now)) (K.seen out.old) result (K.seen out.new) }
+    ensures listed { (query : OwnerQuery) → IfErr result (IsOwnersFault query) }
     ensures frame { OnlyPuts K.Sink show_origin out.old out.new result }
 {
     let text = summary_text(summary);
@@ -225,12 +239,32 @@ fn put_summary<K: Sink>(summary: &Summary, out: &mut K) -> Result<(), ShowFault>
     Ok(())
 }
 
+/// Prints how many clusters there are, are owned, are bad and are free.
+fn show_summary<G: Image, K: Sink>(
+    alloc: Global,
+    image: &mut G,
+    table: &Table,
+    out: &mut K,
+) -> Result<(), ShowFault>
+    requires held { HasClusters (G.seen image.old).size table.now }
+    ensures told { IfTold G.Image image.old (λ content. Puts show_origin
+        (summary_outcome table.now (cluster_at content table.now.geometry.cluster)) (K.seen out.old) result
+        (K.seen out.new)) }
+    ensures listed { (query : OwnerQuery) → IfErr result (IsOwnersFault query) }
+    ensures copies { Copies G.Image K.Sink show_origin image.old image.new out.old out.new result }
+{
+    let summary = count_all(alloc, image, table)?;
+    put_summary(&summary, out)
+}
+
 /// Prints what is asked about the owners of the clusters of the volume whose table is kept.
 ///
 /// The volume is surveyed first: nothing is put where a record isn't right, or mapping pairs aren't. For a summary
 /// there are four lines, `clusters: `, `owned: `, `bad: ` and `free: `, with numbers. A cluster is owned that an
 /// attribute of a record in use names, and bad where a $DATA attribute `$Bad` of record 8 itself names it; each is
-/// counted once. After a fault or want of memory a prefix of the lines was put.
+/// counted once. For a record there is a line for each run, holes too, of each attribute of it and of its extension
+/// records, by record, place and VCN: `record R 0x80 "NAME" vcn V lcn L length N`, with `lcn hole` for a hole; nothing
+/// is put where it isn't in use. After a fault or want of memory a prefix of the lines was put.
 pub fn show_owners<G: Image, K: Sink>(
     alloc: Global,
     image: &mut G,
@@ -241,13 +275,12 @@ pub fn show_owners<G: Image, K: Sink>(
     requires held { HasClusters (G.seen image.old).size table.now }
     ensures told { IfTold G.Image image.old (λ content. Puts show_origin
         (owners_outcome table.now content query.now) (K.seen out.old) result (K.seen out.new)) }
+    ensures listed { IfErr result (IsOwnersFault query.now) }
     ensures copies { Copies G.Image K.Sink show_origin image.old image.new out.old out.new result }
 {
-    match query {
-        OwnerQuery::Info => {
-            let summary = count_all(alloc, image, table)?;
-            put_summary(&summary, out)
-        }
+    match *query {
+        OwnerQuery::Info => show_summary(alloc, image, table, out),
+        OwnerQuery::Number { number } => show_file(alloc, image, table, number, out),
     }
 }
 
@@ -261,6 +294,7 @@ pub fn owners<G: Image, K: Sink>(
     requires held { HasClusters (G.seen volume.old.image.now).size volume.old.table }
     ensures told { IfTold G.Image volume.old.image.now (λ content. Puts show_origin
         (owners_outcome volume.old.table content query.now) (K.seen out.old) result (K.seen out.new)) }
+    ensures listed { IfErr result (IsOwnersFault query.now) }
     ensures same_reference { volume.new.image.ghost_name ≡ volume.old.image.ghost_name }
     ensures kept { volume.new.table ≡ volume.old.table }
     ensures copies { Copies G.Image K.Sink show_origin volume.old.image.now volume.new.image.now

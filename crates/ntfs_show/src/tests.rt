@@ -515,27 +515,51 @@ fn with_ample_memory_a_stream_is_put(rt: HostRuntime) -> Result<(), Fail> {
     Ok(())
 }
 
-/// Asks for the summary of a volume at types that are known by their bounds alone.
-fn count<G: Image, K: Sink>(
+/// Asks about the owners of a volume at types that are known by their bounds alone.
+fn ask<G: Image, K: Sink>(
     alloc: Global,
     image: &mut G,
+    query: &OwnerQuery,
     out: &mut K,
 ) -> Result<Result<(), ShowFault>, VolumeFault> {
     let mut volume = open_volume(alloc, image)?;
-    Ok(owners(alloc, &mut volume, &OwnerQuery::Info, out))
+    Ok(owners(alloc, &mut volume, query, out))
 }
 
-/// Asks for it by the table of a volume alone.
-fn count_by_table<G: Image, K: Sink>(
+/// Asks about them by the table of a volume alone.
+fn ask_by_table<G: Image, K: Sink>(
     alloc: Global,
     image: &mut G,
+    query: &OwnerQuery,
     out: &mut K,
 ) -> Result<Result<(), ShowFault>, VolumeFault> {
     let table = read_table(alloc, image)?;
-    Ok(show_owners(alloc, image, &table, &OwnerQuery::Info, out))
+    Ok(show_owners(alloc, image, &table, query, out))
 }
 
 /// Both calls answer this over a volume, and put these bytes.
+fn tells(
+    rt: &impl Abort,
+    alloc: Global,
+    bytes: &[u8],
+    query: OwnerQuery,
+    answer: Result<(), ShowFault>,
+    want: &[u8],
+) -> Result<(), Fail> {
+    let mut image = MemImage::new(alloc, Vec::from_slice(alloc, bytes)?);
+    let mut out = MemSink::new(alloc);
+    assert_eq!(rt; ask(alloc, &mut image, &query, &mut out), Ok(answer));
+    assert_eq!(rt; out.content.as_slice(), want);
+    let mut out = MemSink::new(alloc);
+    assert_eq!(rt;
+        ask_by_table(alloc, &mut image, &query, &mut out),
+        Ok(answer)
+    );
+    assert_eq!(rt; out.content.as_slice(), want);
+    Ok(())
+}
+
+/// Both answer this where a summary is asked for.
 fn counts(
     rt: &impl Abort,
     alloc: Global,
@@ -543,14 +567,7 @@ fn counts(
     answer: Result<(), ShowFault>,
     want: &[u8],
 ) -> Result<(), Fail> {
-    let mut image = MemImage::new(alloc, Vec::from_slice(alloc, bytes)?);
-    let mut out = MemSink::new(alloc);
-    assert_eq!(rt; count(alloc, &mut image, &mut out), Ok(answer));
-    assert_eq!(rt; out.content.as_slice(), want);
-    let mut out = MemSink::new(alloc);
-    assert_eq!(rt; count_by_table(alloc, &mut image, &mut out), Ok(answer));
-    assert_eq!(rt; out.content.as_slice(), want);
-    Ok(())
+    tells(rt, alloc, bytes, OwnerQuery::Info, answer, want)
 }
 
 /// A hole of three VCNs and the clusters 60 and 61, of a stream of bad clusters.
@@ -678,7 +695,7 @@ fn each_call_of_a_count_failing_alone(rt: HostRuntime) -> Result<(), Fail> {
         image.inside.calls.fail(alloc, failing, Leaves::Before)?;
         let mut out = MemSink::new(alloc);
         assert_eq!(rt;
-            count(alloc, &mut image, &mut out),
+            ask(alloc, &mut image, &OwnerQuery::Info, &mut out),
             Ok(Err(ShowFault::ReadFault))
         );
         assert!(rt; out.content.is_empty());
@@ -688,9 +705,127 @@ fn each_call_of_a_count_failing_alone(rt: HostRuntime) -> Result<(), Fail> {
     let mut out = MemSink::new(alloc);
     out.calls.fail(alloc, 1, Leaves::Front { bytes: 3 })?;
     assert_eq!(rt;
-        count(alloc, &mut image, &mut out),
+        ask(alloc, &mut image, &OwnerQuery::Info, &mut out),
         Ok(Err(ShowFault::WriteFault))
     );
     assert_eq!(rt; out.content.as_slice(), b"clu".as_slice());
+    Ok(())
+}
+
+/// The lines of record 19 and of its extension, record 20.
+const FILE_19: &[u8] =
+    b"record 19 0x80 \"\" vcn 1 lcn hole length 1\nrecord 20 0x80 \"\" vcn 0 lcn 50 length 1\n";
+
+#[test]
+fn the_runs_of_a_file_are_listed(rt: HostRuntime) -> Result<(), Fail> {
+    let alloc = rt.alloc();
+    let bytes = volume(alloc)?;
+    // Record 21 has a value alone; 20 is an extension record itself.
+    let cases: [(u64, &[u8]); 7] = [
+        (0, b"record 0 0x80 \"\" vcn 0 lcn 4 length 32\n"),
+        (16, b"record 16 0x80 \"s\" vcn 0 lcn 50 length 1\n"),
+        (
+            17,
+            b"record 17 0x80 \"\" vcn 0 lcn 50 length 1\nrecord 17 0x80 \"\" vcn 1 lcn 49 length 1\n",
+        ),
+        (19, FILE_19),
+        (20, b"record 20 0x80 \"\" vcn 0 lcn 50 length 1\n"),
+        (21, b""),
+        (
+            22,
+            b"record 22 0x80 \"\" vcn 0 lcn 50 length 1\nrecord 22 0x80 \"\" vcn 1 lcn 49 length 1\n",
+        ),
+    ];
+    for (number, want) in cases {
+        tells(
+            &rt,
+            alloc,
+            &bytes,
+            OwnerQuery::Number { number },
+            Ok(()),
+            want,
+        )?;
+    }
+    Ok(())
+}
+
+/// An extension record may tell any sequence number of its base by 0, and no other than the base's.
+#[test]
+fn extension_records_match_their_base(rt: HostRuntime) -> Result<(), Fail> {
+    let alloc = rt.alloc();
+    let alone = b"record 19 0x80 \"\" vcn 1 lcn hole length 1\n".as_slice();
+    for (sequence, want) in [(0, FILE_19), (1, FILE_19), (2, alone)] {
+        let mut bytes = volume(alloc)?;
+        patch(&mut bytes, record_at(20) + 0x26, &[sequence]);
+        tells(
+            &rt,
+            alloc,
+            &bytes,
+            OwnerQuery::Number { number: 19 },
+            Ok(()),
+            want,
+        )?;
+    }
+    Ok(())
+}
+
+/// The survey's refusals come before that of a record that isn't in use, and nothing is put before either.
+#[test]
+fn the_runs_of_a_file_are_refused(rt: HostRuntime) -> Result<(), Fail> {
+    let alloc = rt.alloc();
+    let torn = ShowFault::Damaged {
+        rule: Rule::C4,
+        number: 22,
+    };
+    let pairs = ShowFault::Damaged {
+        rule: Rule::C7,
+        number: 17,
+    };
+    let cases: [(u64, usize, u8, ShowFault); 5] = [
+        (23, 0x100, 0, no_record(23)),
+        (u64::MAX, 0x100, 0, no_record(u64::MAX)),
+        (23, record_at(22) + 510, 6, torn),
+        (19, record_at(22) + 510, 6, torn),
+        (19, record_at(17) + 56 + 72, 0x91, pairs),
+    ];
+    for (number, place, byte, fault) in cases {
+        let mut bytes = volume(alloc)?;
+        patch(&mut bytes, place, &[byte]);
+        tells(
+            &rt,
+            alloc,
+            &bytes,
+            OwnerQuery::Number { number },
+            Err(fault),
+            b"",
+        )?;
+    }
+    Ok(())
+}
+
+/// The opening reads the boot sector and record 0; then all records are read, the record, and all records again.
+#[test]
+fn each_call_of_a_list_of_runs_failing_alone(rt: HostRuntime) -> Result<(), Fail> {
+    let alloc = rt.alloc();
+    let query = OwnerQuery::Number { number: 19 };
+    for failing in 3..6 {
+        let mut image = MemImage::new(alloc, volume(alloc)?);
+        image.inside.calls.fail(alloc, failing, Leaves::Before)?;
+        let mut out = MemSink::new(alloc);
+        assert_eq!(rt;
+            ask(alloc, &mut image, &query, &mut out),
+            Ok(Err(ShowFault::ReadFault))
+        );
+        assert!(rt; out.content.is_empty());
+        assert_eq!(rt; image.inside.calls.made, failing);
+    }
+    let mut image = MemImage::new(alloc, volume(alloc)?);
+    let mut out = MemSink::new(alloc);
+    out.calls.fail(alloc, 1, Leaves::Front { bytes: 3 })?;
+    assert_eq!(rt;
+        ask(alloc, &mut image, &query, &mut out),
+        Ok(Err(ShowFault::WriteFault))
+    );
+    assert_eq!(rt; out.content.as_slice(), b"rec".as_slice());
     Ok(())
 }

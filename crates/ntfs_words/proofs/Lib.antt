@@ -5,3 +5,4 @@ pub mod SimpleLemmas
 pub mod SpellingLemmas
 pub mod InfoLaws
 pub mod LawLemmas
+pub mod KindLemmas

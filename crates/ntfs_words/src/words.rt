@@ -1,6 +1,6 @@
 //! The words of a command line.
-ghost use Rattle.std.specs.Prelude.{◌≡◌, IfOk, Some, map, string_bytes};
-ghost use Rattle.ntfs_words.specs.Answers.{HasRanges, tool_for};
+ghost use Rattle.std.specs.Prelude.{◌≡◌, IfErr, IfOk, Some, map, string_bytes};
+ghost use Rattle.ntfs_words.specs.Answers.{CanFail, HasRanges, tool_for};
 ghost use Rattle.ntfs_words.specs.Tool.{tool_of};
 ghost use Rattle.ntfs_words.specs.Line.{Reads};
 ghost use Rattle.ntfs_words.specs.Words.{asked};
@@ -25,6 +25,7 @@ pub fn read_words(alloc: Global, words: &[String]) -> Result<Request, WordsFault
     ensures reads { Reads (asked (map string_bytes words.now)) result }
     ensures tool { IfOk result (λ request. tool_of (map string_bytes words.now) ≡ Some (tool_for request)) }
     ensures ranges { IfOk result HasRanges }
+    ensures kinds { IfErr result (CanFail (tool_of (map string_bytes words.now))) }
 {
     match tool_of(words) {
         None => Err(WordsFault::Usage {

@@ -1,8 +1,10 @@
 //! The words of the command line.
 ghost use Rattle.std.specs.Prelude.{◌≡◌};
 
+use ntfs_words::tool_of;
 use std::alloc::{AllocError, Global};
 use std::env::{Env, FillError};
+use std::path::Path;
 
 #[cfg(test)]
 mod tests;
@@ -37,15 +39,40 @@ impl From<AllocError> for ArgumentFault {
     }
 }
 
-/// The words after the program's own name. Each takes as much memory as it has bytes.
+/// The words of a command line: those after the program's own name, and in front of them the last part of that name,
+/// where it is a tool's. Each takes as much memory as it has bytes.
 pub fn arguments<E: Env>(alloc: Global, env: &E) -> Result<Vec<String>, ArgumentFault> {
-    let mut words = Vec::new(alloc);
     let mut room = zeros(alloc, 4096)?;
+    let mut words = own_tool(alloc, env, &mut room)?;
     'words: for number in 1..usize::MAX {
         match argument(alloc, env, number, &mut room)? {
             None => break,
             Some(word) => words.push(word).map_err(AllocError::from)?,
         }
+    }
+    Ok(words)
+}
+
+/// The last part of the program's own name, where a tool has that name, and else nothing. A name that isn't text is none
+/// of a tool.
+fn own_tool<E: Env>(
+    alloc: Global,
+    env: &E,
+    room: &mut Vec<u8>,
+) -> Result<Vec<String>, ArgumentFault> {
+    let mut words = Vec::new(alloc);
+    let own = match argument(alloc, env, 0, room) {
+        Ok(Some(own)) => own,
+        Ok(None) | Err(ArgumentFault::NoText) => return Ok(words),
+        Err(fault) => return Err(fault),
+    };
+    if let Some(last) = Path::new(own.as_str()).file_name() {
+        words
+            .push(String::from_str(alloc, last)?)
+            .map_err(AllocError::from)?;
+    }
+    if tool_of(&words).is_none() {
+        words.clear();
     }
     Ok(words)
 }

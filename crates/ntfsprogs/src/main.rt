@@ -8,7 +8,8 @@ ghost use Rattle.std.specs.Prelude.{◌≡◌, Some};
 use arguments::arguments;
 use ntfs_base::Sink;
 use ntfs_host::{Access, DiskShelf, StandIns, StdInput, StdMessages, StdOutput};
-use ntfs_run::{Tool, run, tool_of};
+use ntfs_run::{run, tool_in};
+use ntfs_words::Tool;
 use std::process::ExitCode;
 
 /// The exit status where memory is wanting.
@@ -36,7 +37,7 @@ fn exit_status(rt: &HostRuntime) -> u8 {
     let Ok(mut out) = StdOutput::new(alloc, rt.stdout()) else {
         return NO_MEMORY;
     };
-    let mut shelf = DiskShelf::new(alloc, rt, access_of(tool_of(&words)));
+    let mut shelf = DiskShelf::new(alloc, rt, access_of(tool_in(&words)));
     let mut input = StdInput::new(rt.stdin());
     let mut err = StdMessages::new(rt.stderr());
     let status = run(alloc, &words, &mut shelf, &mut input, &mut out, &mut err);
@@ -52,7 +53,7 @@ fn access_of(tool: Option<Tool>) -> Access
     ensures shows { result ≡ Access.ReadWrite → tool ≡ Some Tool.Make }
 {
     match tool {
-        None | Some(Tool::Info | Tool::Cat | Tool::Cluster) => Access::ReadOnly,
         Some(Tool::Make) => Access::ReadWrite,
+        _ => Access::ReadOnly,
     }
 }

@@ -176,24 +176,26 @@ fn records_that_are_not_in_use_are_not_found(rt: HostRuntime) -> Result<(), Fail
 #[test]
 fn damage_comes_behind_the_lines_above_it(rt: HostRuntime) -> Result<(), Fail> {
     let alloc = rt.alloc();
-    let cases: [(usize, &[u8], Rule, usize); 8] = [
+    let shapes = SHAPES;
+    let at = record_at(24);
+    let cases: [(usize, &[u8], Rule, &[&str]); 8] = [
         // A torn record, one that tells another number, and an attribute that is too short.
-        (510, &[6], Rule::C4, 0),
-        (0x2C, &[25], Rule::C4, 0),
-        (408 + 4, &[20], Rule::C4, 0),
-        // Pairs that spell a VCN where there is none, that can't be read, that reach past the volume, and that spell one
-        // VCN more.
-        (88 + 72, &[0x11, 1, 50, 0], Rule::C7, 2),
-        (168 + 72, &[0x91], Rule::C7, 3),
-        (168 + 76, &[63], Rule::C7, 3),
-        (168 + 73, &[4], Rule::C7, 3),
-        (328 + 73, &[2], Rule::C7, 5),
+        (at + 510, &[6], Rule::C4, &[]),
+        (at + 0x2C, &[25], Rule::C4, &[]),
+        (at + 408 + 4, &[20], Rule::C4, &[]),
+        // Pairs that spell a VCN where there is none, that can't be read, that reach past the volume, and that spell
+        // one VCN more.
+        (at + 88 + 72, &[0x11, 1, 50, 0], Rule::C7, &shapes[..2]),
+        (at + 168 + 72, &[0x91], Rule::C7, &shapes[..3]),
+        (at + 168 + 76, &[63], Rule::C7, &shapes[..3]),
+        (at + 168 + 73, &[4], Rule::C7, &shapes[..3]),
+        (at + 328 + 73, &[2], Rule::C7, &shapes[..5]),
     ];
-    for (place, text, rule, lines) in cases {
+    for (place, text, rule, want) in cases {
         let mut bytes = shaped(alloc)?;
-        patch(&mut bytes, record_at(24) + place, text);
+        patch(&mut bytes, place, text);
         let fault = ShowFault::Damaged { rule, number: 24 };
-        prints(&rt, alloc, &bytes, 24, Err(fault), &SHAPES[..lines])?;
+        prints(&rt, alloc, &bytes, 24, Err(fault), want)?;
     }
     Ok(())
 }

@@ -74,3 +74,36 @@ fn a_word_that_is_no_text_is_refused(rt: HostRuntime) {
     }
     assert!(rt; arguments(rt.alloc(), &Given(&[])).is_ok());
 }
+
+/// A link to the program, by the name of a tool, has that name as its first word.
+#[test]
+fn the_name_of_a_tool_is_the_first_word(rt: HostRuntime) -> Result<(), Fail> {
+    let rows: [(&[u8], Option<&str>); 14] = [
+        (b"ntfsls", Some("ntfsls")),
+        (b"/usr/bin/ntfsinfo", Some("ntfsinfo")),
+        (b"./ntfscat", Some("ntfscat")),
+        (b"../ntfsprogs/ntfstrial", Some("ntfstrial")),
+        (b"ntfsprogs", None),
+        (b"", None),
+        (b"/", None),
+        (b"ntfsinfo.old", None),
+        (b"ntfsinfo/program", None),
+        (b"my-ntfsinfo", None),
+        (b"NTFSINFO", None),
+        (b"\xff/ntfsinfo", None),
+        (b"ntfsinfo\xff", None),
+        (b"ntfs info", None),
+    ];
+    for (own, first) in rows {
+        let given: [&[u8]; 2] = [own, b"-m"];
+        let Ok(words) = arguments(rt.alloc(), &Given(&given)) else {
+            return Err("no words".into());
+        };
+        assert_eq!(rt; words.len(), if first.is_some() { 2 } else { 1 });
+        assert_eq!(rt;
+            words.first().map(|word| word.as_str()),
+            Some(first.unwrap_or("-m"))
+        );
+    }
+    Ok(())
+}

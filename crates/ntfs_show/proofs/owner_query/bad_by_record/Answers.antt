@@ -12,7 +12,7 @@ pub returns-in-Err-clause-gives : goal.returns-in-Err-clause-gives
 returns-in-Err-clause-gives g c told whole =
     let o = c.args.table.now in
     let f = cluster_at (g.G.Image.seen c.args.image.now).content o.geometry.cluster in
-    gives-no-bad bad_clusters_record o.geometry.clusters c.in-Err.fault (record_attributes o f bad_clusters_record) c.none_if_absent.result c.none_if_absent.ensures
+    gives-no-bad bad_clusters_record o.geometry.clusters c.in-Err.fault (record_attributes o f bad_clusters_record) c.none_if_absent.result c.none_if_absent.ensures.value
     (λ settled. read-refused o f bad_clusters_record c.in-Err.fault whole (c.in-Err.ensures.gives told settled))
 
 pub returns-in-Err-parse-clause-gives : goal.returns-in-Err-parse-clause-gives

@@ -53,3 +53,13 @@ returns-clause-gives g c told =
     (ap (λ (k : Geometry). k.clusters) c.geometry.ensures.kept)
     (c.in_ok-owned.ensures.count ∙ ap₂ (λ owners (k : Geometry). count_where (owns owners) k.clusters) c.owners.ensures c.geometry.ensures.kept)
     (same-count _ _ bad)
+
+pub returns-in_err-survey-clause-listed : goal.returns-in_err-survey-clause-listed
+returns-in_err-survey-clause-listed g c query =
+    let p = err_from_is_err_and c.from_residual.result c.from_residual.ensures.1 in
+    rw (p.1, p.2) (c.in_err-survey.ensures.listed query)
+
+pub returns-in_err-bad-clause-listed : goal.returns-in_err-bad-clause-listed
+returns-in_err-bad-clause-listed g c query =
+    let p = err_from_is_err_and c.from_residual-in_err-bad.result c.from_residual-in_err-bad.ensures.1 in
+    rw (p.1, p.2) (c.in_err-bad.ensures.listed query)

@@ -1,17 +1,15 @@
-use Rattle.std.proofs.lemmas.Result.{err_from_is_err_and}
-use Rattle.ntfs_base.proofs.FramesLemmas.{puts_none}
 use Rattle.ntfs_show.specs.Fault.{show_origin}
 use Rattle.ntfs_show.proofs.AnswerLemmas.{puts_by}
-use Rattle.ntfs_show.proofs.OwnersLemmas.{info-found, info-refused}
+use Rattle.ntfs_show.proofs.OwnersLemmas.{info-outcome, number-outcome}
 use Rattle.ntfs_show.proofs.owner_query.show_owners.Goals as goal
 
-pub returns-in_err-summary-clause-told : goal.returns-in_err-summary-clause-told
-returns-in_err-summary-clause-told g c told =
-    let p = err_from_is_err_and c.from_residual.result c.from_residual.ensures.1 in
-    rw (p.1, p.2) (puts_none show_origin _ _ (g.K.Sink.seen c.args.out.now) (λ settled.
-    info-refused c.args.table.now (g.G.Image.seen c.args.image.now).content c.args.query.now _ (c.in_err-summary.ensures.gives told settled)))
+pub returns-in-Info-clause-told : goal.returns-in-Info-clause-told
+returns-in-Info-clause-told g c told =
+    puts_by show_origin _ _ _ _ _ (info-outcome c.args.table.now (g.G.Image.seen c.args.image.now).content c.args.query.now c.in-Info.is) (c.show_summary.ensures.told told)
 
-pub returns-clause-told : goal.returns-clause-told
-returns-clause-told g c told =
-    puts_by show_origin _ _ _ _ _ (info-found c.args.table.now (g.G.Image.seen c.args.image.now).content c.args.query.now c.in_ok-summary.summary (c.in_ok-summary.ensures.gives told))
-    c.put_summary.ensures.puts
+pub returns-in-Info-clause-listed : goal.returns-in-Info-clause-listed
+returns-in-Info-clause-listed g c = c.show_summary.ensures.listed c.args.query.now
+
+pub returns-in-Number-clause-told : goal.returns-in-Number-clause-told
+returns-in-Number-clause-told g c told =
+    puts_by show_origin _ _ _ _ _ (number-outcome c.args.table.now (g.G.Image.seen c.args.image.now).content c.args.query.now c.in-Number.number c.in-Number.is) (c.show_file.ensures.told told)

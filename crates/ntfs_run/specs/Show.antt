@@ -1,0 +1,49 @@
+-- What the requests of the tools that only show print: an arm for each tool. The words are ours.
+use Rattle.std.specs.Prelude.{ℕ, Bool, true, false, List, Some, None, if◌then◌else◌}
+use Rattle.ntfs_base.specs.declared.refusal.UsageKind.TheVariants as usage
+use Rattle.ntfs_show.specs.Printing.{Printing, printing_of, stops}
+use Rattle.ntfs_show.specs.declared.owner_query.OwnerQuery.TheVariants as owner_query
+use Rattle.ntfs_volume.specs.Opened.{Opened}
+use Rattle.ntfs_words.specs.declared.request.Ask.TheVariants as ask
+use Rattle.ntfs_words.specs.declared.request.Request.{Request}
+use Rattle.ntfs_words.specs.declared.request.Request.TheVariants as request
+use Rattle.ntfs_run.specs.Cat.{CatRefuses, cat_bytes, stream_name}
+use Rattle.ntfs_run.specs.Cluster.{ClusterRefuses, owner_lines}
+use Rattle.ntfs_run.specs.Info.{GeometryRefuses, RecordRefuses, image_lines, record_lines}
+use Rattle.ntfs_run.specs.Shown.{of_volume}
+use Rattle.ntfs_run.specs.declared.status.Status.{Status}
+use Rattle.ntfs_run.specs.declared.status.Status.TheVariants as status
+
+-- the geometry alone is asked for, for which no volume is opened
+abbrev pub asks_geometry : Request → Bool
+asks_geometry (request.Info mft None image) = true
+asks_geometry other = false
+
+-- the requests that print
+abbrev pub is_shown : Request → Bool
+is_shown (request.Info mft number image) = true
+is_shown (request.Cat place kind name image) = true
+is_shown (request.Cluster ask.Info image) = true
+is_shown other = false
+
+-- what is printed of an opened volume, whose image has these bytes. No other request is taken
+unfoldable pub volume_printing : Request → Opened → List ℕ → Printing Status
+volume_printing (request.Info mft (Some number) image) volume bytes = record_lines number volume bytes
+volume_printing (request.Cat place kind name image) volume bytes =
+    printing_of (cat_bytes place kind (stream_name name) volume bytes)
+volume_printing (request.Cluster ask.Info image) volume bytes = printing_of (owner_lines owner_query.Info volume bytes)
+volume_printing other volume bytes = stops (status.Usage usage.Tool)
+
+-- what is printed of an image of these bytes
+unfoldable pub image_printing : Request → List ℕ → Printing Status
+image_printing request bytes =
+    if asks_geometry request then printing_of (image_lines bytes)
+    else of_volume bytes (λ volume. volume_printing request volume bytes)
+
+-- the refusals of the requests that are taken
+abbrev pub ShowRefuses : Request → Status → Type 0
+ShowRefuses (request.Info mft None image) fault = GeometryRefuses fault
+ShowRefuses (request.Info mft (Some number) image) fault = RecordRefuses fault
+ShowRefuses (request.Cat place kind name image) fault = CatRefuses fault
+ShowRefuses (request.Cluster ask.Info image) fault = ClusterRefuses fault
+ShowRefuses other fault = Unit {0}
