@@ -91,28 +91,28 @@ descent-entered o v image levels number old new few front above path met bears b
     let k = levels - suc (length old.above.items) in
     let more : levels - length old.above.items ≡ suc k = omega (arith, few) in
     let fewer : levels - length new.above.items ≡ k =
-        omega (arith, ap length above, length-append old.above.items (old.present ∷ [])) in
+    omega (arith, ap length above, length-append old.above.items (old.present ∷ [])) in
     let next : after_present o v image levels new ≡ behind_below o v image levels old =
-        ap (λ (xs : List Level). left_above o v image levels [] xs nothing_more) above
-        ∙ left_above-append o v image levels [] old.above.items old.present nothing_more
-        ∙ ap (λ (f : List ℕ). left_in_level o v image (levels - length old.above.items) f old.present
-        (after_present o v image levels old)) (sym front) in
+    ap (λ (xs : List Level). left_above o v image levels [] xs nothing_more) above
+    ∙ left_above-append o v image levels [] old.above.items old.present nothing_more
+    ∙ ap (λ (f : List ℕ). left_in_level o v image (levels - length old.above.items) f old.present
+    (after_present o v image levels old)) (sym front) in
     let below = front_below old.path.items old.present.directory.walk.key in
     let now = also_met number old.met.keys in
     let walk = left_of v.geometry image new.present.directory in
     let opened : below_descent o v image levels old number
-        ≡ list_entries o v image (list_directory o v image k) below number walk.entries walk.fault
-        (behind_below o v image levels old) now =
-        directory-walk o v image (levels - length old.above.items) k below number (behind_below o v image levels old) now
-        more
-        ∙ ap (λ (w : Result DirectoryWalk VolumeFault). list_walk o v image (list_directory o v image k) below number w
-        (behind_below o v image levels old) now) (walk-found number _ walk begun) in
+    ≡ list_entries o v image (list_directory o v image k) below number walk.entries walk.fault
+    (behind_below o v image levels old) now =
+    directory-walk o v image (levels - length old.above.items) k below number (behind_below o v image levels old) now
+    more
+    ∙ ap (λ (w : Result DirectoryWalk VolumeFault). list_walk o v image (list_directory o v image k) below number w
+    (behind_below o v image levels old) now) (walk-found number _ walk begun) in
     let level : (n : ℕ) → n ≡ k → (f : List ℕ) → f ≡ below → (r : ℕ) → r ≡ number → (b : Next)
-        → b ≡ behind_below o v image levels old → (m : List ℕ) → m ≡ now
-        → list_entries o v image (list_directory o v image k) below number walk.entries walk.fault
-        (behind_below o v image levels old) now
-        ≡ list_entries o v image (list_directory o v image n) f r walk.entries walk.fault b m =
-        λ n a f b r c x e m i. rw (a, b, c, e, i) refl in
+    → b ≡ behind_below o v image levels old → (m : List ℕ) → m ≡ now
+    → list_entries o v image (list_directory o v image k) below number walk.entries walk.fault
+    (behind_below o v image levels old) now
+    ≡ list_entries o v image (list_directory o v image n) f r walk.entries walk.fault b m =
+    λ n a f b r c x e m i. rw (a, b, c, e, i) refl in
     opened ∙ level (levels - length new.above.items) fewer new.path.items path new.present.directory.number bears
     (after_present o v image levels new) next new.met.keys met
 
@@ -170,7 +170,7 @@ front-behind : (old new : Descent) → old.path.items ≡ front_of [] old.above.
 front-behind old new front up =
     let all = front_of [] old.above.items in
     let long : length old.path.items - length old.present.name.items ≡ length all =
-        omega (arith, ap length front, length-append all old.present.name.items) in
+    omega (arith, ap length front, length-append all old.present.name.items) in
     up.path ∙ ap (λ (n : ℕ). take n old.path.items) long ∙ ap (take (length all)) front
     ∙ take-append_seam all old.present.name.items
     ∙ ap (front_of []) up.above ∙ front_of-append [] new.above.items new.present
@@ -183,26 +183,35 @@ descent-up v levels old new is up =
       present = parts.1;
       above = parts.0;
       path = front-behind old new is.path up;
-      levels_left = omega (arith, is.levels_left, ap (λ (m : BTreeSet ℕ). unmet levels m.keys) up.met,
-          ap length up.above, length-append new.above.items (new.present ∷ []));
+      levels_left = omega (
+        arith,
+        is.levels_left,
+        ap (λ (m : BTreeSet ℕ). unmet levels m.keys) up.met,
+        ap length up.above,
+        length-append new.above.items (new.present ∷ []),
+      );
     }
 
 pub descent-up-fewer : (levels : ℕ) (old new : Descent) → IsUp old new → descent_most levels new < descent_most levels old
 descent-up-fewer levels old new up =
-    omega (arith, ap (λ (m : BTreeSet ℕ). unmet levels m.keys) up.met, ap length up.above,
-    length-append new.above.items (new.present ∷ []))
+    omega (
+      arith,
+      ap (λ (m : BTreeSet ℕ). unmet levels m.keys) up.met,
+      ap length up.above,
+      length-append new.above.items (new.present ∷ []),
+    )
 
 pub descent-left : (o : ListOptions) (v : Opened) (image : List ℕ) (levels : ℕ) (old new : Descent)
     → old.path.items ≡ front_of [] old.above.items ++ old.present.name.items → IsUp old new
     → above_descent o v image levels old ≡ left_of_descent o v image levels new
 descent-left o v image levels old new front up =
     let next : after_present o v image levels old
-        ≡ left_in_level o v image (levels - length new.above.items) new.path.items new.present
-        (after_present o v image levels new) =
-        ap (λ (xs : List Level). left_above o v image levels [] xs nothing_more) up.above
-        ∙ left_above-append o v image levels [] new.above.items new.present nothing_more
-        ∙ ap (λ (f : List ℕ). left_in_level o v image (levels - length new.above.items) f new.present
-        (after_present o v image levels new)) (sym (front-behind old new front up)) in
+    ≡ left_in_level o v image (levels - length new.above.items) new.path.items new.present
+    (after_present o v image levels new) =
+    ap (λ (xs : List Level). left_above o v image levels [] xs nothing_more) up.above
+    ∙ left_above-append o v image levels [] new.above.items new.present nothing_more
+    ∙ ap (λ (f : List ℕ). left_in_level o v image (levels - length new.above.items) f new.present
+    (after_present o v image levels new)) (sym (front-behind old new front up)) in
     ap (λ (n : Next). n old.met.keys) next
     ∙ ap (λ (m : BTreeSet ℕ). left_in_level o v image (levels - length new.above.items) new.path.items new.present
     (after_present o v image levels new) m.keys) (sym up.met)
@@ -232,10 +241,10 @@ descent-begun o v image levels start d above path met bears begun =
     let walk = left_of v.geometry image d.present.directory in
     let same : levels ≡ levels - length d.above.items = omega (arith, ap length above) in
     let level : (n : ℕ) → levels ≡ n → (f : List ℕ) → f ≡ [] → (r : ℕ) → r ≡ start → (b : Next) → b ≡ nothing_more
-        → (m : List ℕ) → m ≡ start ∷ []
-        → list_entries o v image (list_directory o v image levels) [] start walk.entries walk.fault nothing_more
-        (start ∷ []) ≡ list_entries o v image (list_directory o v image n) f r walk.entries walk.fault b m =
-        λ n a f b r c x e m i. rw (← a, b, c, e, i) refl in
+    → (m : List ℕ) → m ≡ start ∷ []
+    → list_entries o v image (list_directory o v image levels) [] start walk.entries walk.fault nothing_more
+    (start ∷ []) ≡ list_entries o v image (list_directory o v image n) f r walk.entries walk.fault b m =
+    λ n a f b r c x e m i. rw (← a, b, c, e, i) refl in
     directory-walk o v image (suc levels) levels [] start nothing_more (start ∷ []) refl
     ∙ ap (λ (w : Result DirectoryWalk VolumeFault). list_walk o v image (list_directory o v image levels) [] start w
     nothing_more (start ∷ [])) (walk-found start _ walk begun)

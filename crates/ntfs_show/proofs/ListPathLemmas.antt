@@ -48,9 +48,9 @@ module _ (expected : Printing ShowFault) (front waiting : List ℕ) (was now aft
       → Prints show_origin expected was (Ok tt) after
   list-ended is rest =
       let text : expected.output ≡ front ++ waiting =
-          ap (λ (p : Printing ShowFault). p.output) is ∙ ap (λ (bytes : List ℕ). front ++ bytes) (append-nil waiting) in
+      ap (λ (p : Printing ShowFault). p.output) is ∙ ap (λ (bytes : List ℕ). front ++ bytes) (append-nil waiting) in
       let all : after ≡ after_put expected.output was =
-          all-put rest ∙ ap (λ (bytes : List ℕ). after_put bytes was) (sym text) in
+      all-put rest ∙ ap (λ (bytes : List ℕ). after_put bytes was) (sym text) in
       record {
         answer = λ settled. sym (ap (λ (p : Printing ShowFault). end_of p.fault) is);
         output = λ settled. all;

@@ -56,13 +56,13 @@ unfolding unmet
 unmet-less zero number old new meets within apart = absurd (omega arith)
 unmet-less (suc n) number old new meets within apart = elim (cases_Bool (number == n)) [
   | inl same ↦
-    let is : number ≡ n = eqb-true number n same in
-    let rest = unmet-le n number old new meets in
-    let now : is_met n new ≡ true = ap (λ m. is_met m new) (sym is) ∙ one-met number old new meets in
-    let was : is_met n old ≡ false = ap (λ m. is_met m old) (sym is) ∙ apart in
-    rw (now, was) (omega (arith, rest))
+      let is : number ≡ n = eqb-true number n same in
+      let rest = unmet-le n number old new meets in
+      let now : is_met n new ≡ true = ap (λ m. is_met m new) (sym is) ∙ one-met number old new meets in
+      let was : is_met n old ≡ false = ap (λ m. is_met m old) (sym is) ∙ apart in
+      rw (now, was) (omega (arith, rest))
   | inr other ↦
-    let less = unmet-less n number old new meets (below-last number n within (eqb-false number n other)) apart in
-    let last = step-le (is_met n new) (is_met n old) (is_at (nat_cmp number) n) (meets.updates n) in
-    omega (arith, less, last)
+      let less = unmet-less n number old new meets (below-last number n within (eqb-false number n other)) apart in
+      let last = step-le (is_met n new) (is_met n old) (is_at (nat_cmp number) n) (meets.updates n) in
+      omega (arith, less, last)
 ]

@@ -113,8 +113,8 @@ module _ (o : ListOptions) (v : Opened) (image : List ℕ) where
   list_given enter front d entry others met =
       if is_shown o entry.key
       then list_entry o front entry (entry_kind d entry.reference)
-          (λ is_directory. list_below enter (is_entered o is_directory (target entry.reference) met)
-          (front_below front entry.key) (target entry.reference) others met)
+      (λ is_directory. list_below enter (is_entered o is_directory (target entry.reference) met)
+      (front_below front entry.key) (target entry.reference) others met)
       else others met
 
   -- the entries of directory d, and what comes then

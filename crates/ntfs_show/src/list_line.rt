@@ -34,12 +34,7 @@ pub(crate) fn push_name(alloc: Global, text: &mut Vec<u8>, key: &[u8]) -> Result
 }
 
 /// Appends the path of an entry.
-fn push_path(
-    alloc: Global,
-    text: &mut Vec<u8>,
-    front: &[u8],
-    key: &[u8],
-) -> Result<(), AllocError>
+fn push_path(alloc: Global, text: &mut Vec<u8>, front: &[u8], key: &[u8]) -> Result<(), AllocError>
     ensures { OnOk result (text.new.items ≡ text.old.items ++ entry_path front.now key.now) }
 {
     text.extend_from_slice(front)?;
@@ -48,11 +43,7 @@ fn push_path(
 
 /// Ends a line, with a slash where it is that of a directory and kinds are asked for.
 #[tactic(auto, unfolding(crate::specs::Listing::kind_text))]
-fn end_line(
-    line: &mut Vec<u8>,
-    options: ListOptions,
-    is_directory: bool,
-) -> Result<(), AllocError>
+fn end_line(line: &mut Vec<u8>, options: ListOptions, is_directory: bool) -> Result<(), AllocError>
     ensures { OnOk result (line.new.items ≡ line.old.items ++ (kind_text options is_directory ++ line_end)) }
 {
     if options.classify && is_directory {

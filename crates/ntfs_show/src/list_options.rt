@@ -47,7 +47,12 @@ pub(crate) fn is_shown(options: ListOptions, key: &[u8]) -> bool
 }
 
 #[tactic(auto, unfolding(crate::specs::Listing::is_entered))]
-pub(crate) fn is_entered(options: ListOptions, is_directory: bool, number: u64, met: &BTreeSet<u64>) -> bool
+pub(crate) fn is_entered(
+    options: ListOptions,
+    is_directory: bool,
+    number: u64,
+    met: &BTreeSet<u64>,
+) -> bool
     ensures { result ≡ is_entered options is_directory number met.now.keys }
 {
     options.recursive && is_directory && !met.contains(&number)

@@ -98,12 +98,5 @@ pub fn list<G: Image, K: Sink>(
     ensures copies { Copies G.Image K.Sink show_origin volume.old.image.now volume.new.image.now
         out.old out.new result }
 {
-    show_list(
-        alloc,
-        &mut *volume.image,
-        &volume.table,
-        options,
-        path,
-        out,
-    )
+    show_list(alloc, &mut *volume.image, &volume.table, options, path, out)
 }

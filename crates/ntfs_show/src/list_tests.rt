@@ -24,7 +24,9 @@ fn put(bytes: &mut [u8], place: usize, text: &[u8]) {
 
 /// The place of a record.
 fn record_at(number: u64) -> usize {
-    ((number % 65_536) as usize).wrapping_mul(1024).wrapping_add(4096)
+    ((number % 65_536) as usize)
+        .wrapping_mul(1024)
+        .wrapping_add(4096)
 }
 
 /// Puts the two bytes at a place into the fixup array, and the fixup number, 5, over them.
@@ -43,9 +45,17 @@ fn record(bytes: &mut [u8], number: u64, flags: u8, end: u16) {
     let at = record_at(number);
     put(bytes, at, b"FILE\x30\0\x03\0");
     put(bytes, at.wrapping_add(0x10), &[3, 0, 1, 0, 56, 0, flags, 0]);
-    put(bytes, at.wrapping_add(0x18), &end.wrapping_add(8).to_le_bytes());
+    put(
+        bytes,
+        at.wrapping_add(0x18),
+        &end.wrapping_add(8).to_le_bytes(),
+    );
     put(bytes, at.wrapping_add(0x1C), &[0, 4]);
-    put(bytes, at.wrapping_add(0x2C), &((number % 65_536) as u32).to_le_bytes());
+    put(
+        bytes,
+        at.wrapping_add(0x2C),
+        &((number % 65_536) as u32).to_le_bytes(),
+    );
     put(bytes, at.wrapping_add(0x30), &[5, 0]);
     put(bytes, at.wrapping_add(usize::from(end)), &[0xFF; 4]);
     seal(bytes, at.wrapping_add(510), at.wrapping_add(0x32));
@@ -63,8 +73,16 @@ fn entry(bytes: &mut [u8], place: usize, named: Named<'_>) -> usize {
     let key = 66 + name.len() % 512;
     let length = (16 + key).next_multiple_of(8);
     put(bytes, place, &reference.to_le_bytes());
-    put(bytes, place.wrapping_add(8), &((length % 1024) as u16).to_le_bytes());
-    put(bytes, place.wrapping_add(10), &((key % 1024) as u16).to_le_bytes());
+    put(
+        bytes,
+        place.wrapping_add(8),
+        &((length % 1024) as u16).to_le_bytes(),
+    );
+    put(
+        bytes,
+        place.wrapping_add(10),
+        &((key % 1024) as u16).to_le_bytes(),
+    );
     put(
         bytes,
         place.wrapping_add(16 + 0x40),
@@ -94,7 +112,11 @@ fn directory(bytes: &mut [u8], number: u64, entries: &[Named<'_>]) {
     }
     put(bytes, place.wrapping_add(8), &[16, 0, 0, 0, 2]);
     put(bytes, root.wrapping_add(48), &[16]);
-    put(bytes, root.wrapping_add(52), &((used % 65_536) as u32).to_le_bytes());
+    put(
+        bytes,
+        root.wrapping_add(52),
+        &((used % 65_536) as u32).to_le_bytes(),
+    );
     record(bytes, number, 3, 56 + 752);
 }
 
@@ -111,11 +133,7 @@ fn empty(alloc: Global, records: u16) -> Result<Vec<u8>, AllocError> {
     let data = 4096 + 56;
     let size = (u64::from(records) * 1024).to_le_bytes();
     let [low, high] = records.to_le_bytes();
-    put(
-        &mut bytes,
-        data,
-        &[0x80, 0, 0, 0, 88, 0, 0, 0, 1, 0, 64],
-    );
+    put(&mut bytes, data, &[0x80, 0, 0, 0, 88, 0, 0, 0, 1, 0, 64]);
     put(
         &mut bytes,
         data + 0x18,
@@ -291,7 +309,11 @@ fn bad(alloc: Global, reference: u64) -> Result<Vec<u8>, AllocError> {
     );
     file(&mut bytes, 17);
     file(&mut bytes, 21);
-    put(&mut bytes, record_at(21).wrapping_add(0x20), &[17, 0, 0, 0, 0, 0, 3]);
+    put(
+        &mut bytes,
+        record_at(21).wrapping_add(0x20),
+        &[17, 0, 0, 0, 0, 0, 3],
+    );
     file(&mut bytes, 22);
     put(&mut bytes, record_at(22).wrapping_add(510), &[6]);
     Ok(bytes)
@@ -322,7 +344,11 @@ fn lines_stand_before_a_refusal(rt: HostRuntime) -> Result<(), Fail> {
     let alloc = rt.alloc();
     let mut bytes = three(alloc)?;
     // The second entry of record 19, which ends it, has a length of 8.
-    put(&mut bytes, record_at(19).wrapping_add(56 + 64 + 88 + 8), &[8]);
+    put(
+        &mut bytes,
+        record_at(19).wrapping_add(56 + 64 + 88 + 8),
+        &[8],
+    );
     let damaged = Err(ShowFault::Damaged {
         rule: Rule::C13,
         number: 19,
@@ -376,7 +402,10 @@ fn each_call_failing_alone_leaves_a_front(rt: HostRuntime) -> Result<(), Fail> {
     let text = ".\nDir\nDir/i\nDir/s\nDir/s/x\nb\n\u{FFFD}x\u{1F600}\n";
     let mut image = MemImage::new(alloc, three(alloc)?);
     let mut out = MemSink::new(alloc);
-    assert_eq!(rt; list_volume(alloc, &mut image, &BELOW, "", &mut out), Ok(Ok(())));
+    assert_eq!(rt;
+        list_volume(alloc, &mut image, &BELOW, "", &mut out),
+        Ok(Ok(()))
+    );
     let calls = image.inside.calls.made;
     for failing in 3..calls.min(100).wrapping_add(1) {
         let mut image = MemImage::new(alloc, three(alloc)?);

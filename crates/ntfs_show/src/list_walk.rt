@@ -131,7 +131,14 @@ fn show_entry<G: Image, K: Sink>(
     ensures desk { IsSameDesk desk.old desk.new }
     ensures copies { Copies G.Image K.Sink show_origin image.old image.new out.old out.new result }
 {
-    let is_directory = read_kind(image, table, desk.options, number, reference, &mut desk.block)?;
+    let is_directory = read_kind(
+        image,
+        table,
+        desk.options,
+        number,
+        reference,
+        &mut desk.block,
+    )?;
     build_line(
         desk.alloc,
         &mut desk.line,

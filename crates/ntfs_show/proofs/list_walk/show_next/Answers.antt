@@ -36,8 +36,11 @@ returns-in_ok-below-in-Ok-Some-clause-lists g c =
     next-printed (IsTrue seen.is_told) c.args.desk.now.options c.args.table.now seen.content c.args.front.now
     c.args.number c.args.met.now.keys c.args.directory.now c.next.new.self entry c.in_ok-below-in-Ok-Some.below
     c.args.desk.now.pending _ c.show_given.new.desk.pending _ walked.bears still (sym c.key.ensures)
-    (λ told. turn walked.sound told ∙ ap (λ (k : List ℕ). entry_before (record { reference =
-    c.in-Ok-Some.entry.reference; key = k }) (left_of c.args.table.now.geometry seen.content c.next.new.self))
+    (λ told. turn walked.sound told ∙ ap (λ (k : List ℕ). entry_before (record {
+      reference =
+          c.in-Ok-Some.entry.reference;
+      key = k;
+    }) (left_of c.args.table.now.geometry seen.content c.next.new.self))
     (sym c.key.ensures))
     (rw same at c.in_ok-below-in-Ok-Some.ensures.lists)
 
@@ -55,7 +58,10 @@ returns-in_err-below-in-Ok-Some-clause-lists g c =
     (next-stopped (IsTrue seen.is_told) c.args.desk.now.options c.args.table.now seen.content c.args.front.now
     c.args.number c.args.met.now.keys c.args.directory.now c.next.new.self entry
     c.in_err-below-in-Ok-Some.field-0.0 c.args.desk.now.pending _ c.show_given.new.desk.pending _ walked.bears still
-    (λ told. turn walked.sound told ∙ ap (λ (k : List ℕ). entry_before (record { reference =
-    c.in-Ok-Some.entry.reference; key = k }) (left_of c.args.table.now.geometry seen.content c.next.new.self))
+    (λ told. turn walked.sound told ∙ ap (λ (k : List ℕ). entry_before (record {
+      reference =
+          c.in-Ok-Some.entry.reference;
+      key = k;
+    }) (left_of c.args.table.now.geometry seen.content c.next.new.self))
     (sym c.key.ensures))
     (rw same at c.in_err-below-in-Ok-Some.ensures.lists))

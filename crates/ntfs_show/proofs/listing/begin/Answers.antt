@@ -8,8 +8,13 @@ use Rattle.ntfs_show.proofs.listing.begin.Goals as goal
 pub returns-clause-told : goal.returns-clause-told
 returns-clause-told g c o told =
     let made : Descent =
-    record { alloc = c.args.alloc; present = c.in_ok-present.present; above = c.new-2.result; path = c.new-3.result;
-    met = c.meet.new.met } in
+    record {
+      alloc = c.args.alloc;
+      present = c.in_ok-present.present;
+      above = c.new-2.result;
+      path = c.new-3.result;
+      met = c.meet.new.met;
+    } in
     descent-begun o c.args.table.now (g.G.Image.seen c.args.image.now).content record_numbers c.args.start made
     c.new-2.ensures.items c.new-3.ensures.items
     (c.in_ok-meet.ensures.also ∙ ap (also_met c.args.start) c.new-met.ensures.empty)
@@ -25,8 +30,13 @@ returns-in_err-present-clause-told g c o told =
 pub returns-clause-descent : goal.returns-clause-descent
 returns-clause-descent g c =
     let made : Descent =
-    record { alloc = c.args.alloc; present = c.in_ok-present.present; above = c.new-2.result; path = c.new-3.result;
-    met = c.meet.new.met } in
+    record {
+      alloc = c.args.alloc;
+      present = c.in_ok-present.present;
+      above = c.new-2.result;
+      path = c.new-3.result;
+      met = c.meet.new.met;
+    } in
     start-kept c.args.table.now record_numbers made c.new-2.ensures.items c.new-3.ensures.items
     (ap (λ name. name.items) c.in_ok-present.ensures.named ∙ c.new.ensures.items)
     (rw c.in_ok-present.ensures.bears c.in_ok-present.ensures.walked)

@@ -18,8 +18,14 @@ returns-clause-told g c o told =
     descent-few c.args.table.now _ c.args.number old c.meet.new.met.keys is c.requires.below c.requires.new
     c.in_ok-meet.ensures.one in
     let new : Descent =
-    record { alloc = old.alloc; present = c.replace-parent.new.dest; above = c.push_level.new.levels; path =
-    c.extend_from_slice.new.self; met = c.meet.new.met } in
+    record {
+      alloc = old.alloc;
+      present = c.replace-parent.new.dest;
+      above = c.push_level.new.levels;
+      path =
+          c.extend_from_slice.new.self;
+      met = c.meet.new.met;
+    } in
     descent-entered o c.args.table.now image _ c.args.number old new few.0 is.path
     (c.in_ok-push_level.ensures ∙ ap (λ (l : Level). old.above.items ++ l ∷ []) c.replace-parent.ensures.value)
     (c.in_ok-extend_from_slice.ensures.items ∙ ap (λ (xs : List ℕ). old.path.items ++ xs) (c.deref.ensures.value
@@ -46,8 +52,14 @@ returns-clause-descent g c =
     let old = c.args.self.now in
     let after = c.replace-parent.ensures.after in
     let new : Descent =
-    record { alloc = old.alloc; present = c.replace-parent.new.dest; above = c.push_level.new.levels; path =
-    c.extend_from_slice.new.self; met = c.meet.new.met } in
+    record {
+      alloc = old.alloc;
+      present = c.replace-parent.new.dest;
+      above = c.push_level.new.levels;
+      path =
+          c.extend_from_slice.new.self;
+      met = c.meet.new.met;
+    } in
     descent-kept c.args.table.now _ c.args.number old new is c.requires.below c.requires.new c.in_ok-meet.ensures.one
     (c.in_ok-push_level.ensures ∙ ap (λ (l : Level). old.above.items ++ l ∷ []) c.replace-parent.ensures.value)
     (c.in_ok-extend_from_slice.ensures.items ∙ ap (λ (xs : List ℕ). old.path.items ++ xs) (c.deref.ensures.value
@@ -59,7 +71,13 @@ returns-clause-fewer g c =
     let is = c.requires.descent in
     let old = c.args.self.now in
     let new : Descent =
-    record { alloc = old.alloc; present = c.replace-parent.new.dest; above = c.push_level.new.levels; path =
-    c.extend_from_slice.new.self; met = c.meet.new.met } in
+    record {
+      alloc = old.alloc;
+      present = c.replace-parent.new.dest;
+      above = c.push_level.new.levels;
+      path =
+          c.extend_from_slice.new.self;
+      met = c.meet.new.met;
+    } in
     descent-fewer c.args.table.now _ c.args.number old new is c.requires.below c.requires.new c.in_ok-meet.ensures.one
     (c.in_ok-push_level.ensures ∙ ap (λ (l : Level). old.above.items ++ l ∷ []) c.replace-parent.ensures.value)

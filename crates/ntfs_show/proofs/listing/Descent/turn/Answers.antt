@@ -25,8 +25,14 @@ returns-in_err-enter-in-Some-clause-lists g c =
     let o = c.args.desk.now.options in
     let v = c.args.table.now in
     let mid : Descent =
-    record old { present = record { directory = c.show_entries.new.directory; number = old.present.number; name =
-    old.present.name } } in
+    record old {
+      present = record {
+        directory = c.show_entries.new.directory;
+        number = old.present.number;
+        name =
+            old.present.name;
+      };
+    } in
     let shown = c.in_ok-below.ensures in
     let goes = rw (c.deref.ensures.value, c.in-Some.is) at shown.lists in
     let entered = rw shown.copies.seen at c.in_err-enter-in-Some.ensures.told in
@@ -50,8 +56,14 @@ returns-in-None-clause-lists g c =
     let o = c.args.desk.now.options in
     let v = c.args.table.now in
     let mid : Descent =
-    record old { present = record { directory = c.show_entries.new.directory; number = old.present.number; name =
-    old.present.name } } in
+    record old {
+      present = record {
+        directory = c.show_entries.new.directory;
+        number = old.present.number;
+        name =
+            old.present.name;
+      };
+    } in
     let goes = rw (c.deref.ensures.value, c.in-None.is) at c.in_ok-below.ensures.lists in
     goes-at (IsTrue seen.is_told) (λ (all : Unit {0}). around_present o v seen.content record_numbers old) _ _ _ _ _ _
     goes (λ told all. refl)
@@ -63,8 +75,14 @@ returns-in-None-clause-descent g c more =
     let old = c.args.self.now in
     let is = c.requires.descent in
     let mid : Descent =
-    record old { present = record { directory = c.show_entries.new.directory; number = old.present.number; name =
-    old.present.name } } in
+    record old {
+      present = record {
+        directory = c.show_entries.new.directory;
+        number = old.present.number;
+        name =
+            old.present.name;
+      };
+    } in
     let walked : IsDescent c.args.table.now record_numbers mid =
     record { present = c.in_ok-below.ensures.walked; above = is.above; path = is.path; levels_left = is.levels_left } in
     descent-up c.args.table.now record_numbers mid c.leave.new.self walked (c.leave.ensures.up more)
