@@ -1,0 +1,19 @@
+-- Why a clone image wasn't read or restored, and where that comes from. The words are ours.
+use Rattle.ntfs_base.specs.Frames.{Origin, content, reading, writing, memory}
+use Rattle.ntfs_base.specs.declared.fault.PutFault.{PutFault}
+use Rattle.ntfs_base.specs.declared.fault.PutFault.TheVariants as put
+use Rattle.ntfs_clone.specs.declared.fault.CloneFault.{CloneFault}
+use Rattle.ntfs_clone.specs.declared.fault.CloneFault.TheVariants as clone
+
+-- where a refusal comes from
+abbrev pub clone_origin : CloneFault → Origin
+clone_origin (clone.BadClone place) = content
+clone_origin (clone.Damaged rule number) = content
+clone_origin clone.ReadFault = reading
+clone_origin clone.WriteFault = writing
+clone_origin clone.NoMemory = memory
+
+-- a refusal of a file or of a sink
+abbrev pub file_fault : PutFault → CloneFault
+file_fault put.Failed = clone.WriteFault
+file_fault put.NoMemory = clone.NoMemory

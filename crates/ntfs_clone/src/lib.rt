@@ -1,0 +1,8 @@
+//! Clone images: the clusters of a volume that its files own, in one stream. Here they are read and restored.
+#![tactic(auto)]
+
+mod fault;
+mod header;
+
+pub use fault::CloneFault;
+pub use header::CloneHeader;
