@@ -17,3 +17,14 @@ clone_origin clone.NoMemory = memory
 abbrev pub file_fault : PutFault → CloneFault
 file_fault put.Failed = clone.WriteFault
 file_fault put.NoMemory = clone.NoMemory
+
+-- the clone image is wrong at some place
+abbrev pub IsBad : CloneFault → Type 0
+IsBad (clone.BadClone place) = Unit {0}
+IsBad other = ⊥
+
+-- the same, or a read failed
+abbrev pub IsReadFault : CloneFault → Type 0
+IsReadFault (clone.BadClone place) = Unit {0}
+IsReadFault clone.ReadFault = Unit {0}
+IsReadFault other = ⊥

@@ -3,6 +3,7 @@ pub use Rattle.ntfs_base.specs.Causes
 pub use Rattle.ntfs_base.specs.Source
 pub use Rattle.ntfs_boot.specs.Geometry
 pub mod Fault
+pub mod Taking
 pub mod Header
 pub mod Commands
 pub mod CloneOf

@@ -3,6 +3,7 @@
 
 mod fault;
 mod header;
+mod taking;
 
 pub use fault::CloneFault;
-pub use header::CloneHeader;
+pub use header::{CloneHeader, read_header};
