@@ -1,9 +1,11 @@
 -- Bytes that a source gives, one piece after the other.
-use Rattle.std.proofs.Common.{◌≡◌, ◌≤◌, ◌+◌, ◌-◌, ℕ, zero, suc, Bool, true, false, List, [], ◌∷◌, ◌++◌, length, take, drop, refl, sym, ap, ◌∙◌, arith, if◌then◌else◌, IsTrue, length-append, min}
-use Rattle.std.proofs.lemmas.List.{take-append-drop, take-append-le, drop-take, take_all, drop-drop, length-take, length-drop}
+use Rattle.std.proofs.Common.{◌≡◌, ◌≤◌, ◌+◌, ◌-◌, ℕ, zero, suc, Bool, true, false, List, [], ◌∷◌, ◌++◌, length, take, drop, refl, sym, ap, ◌∙◌, arith, if◌then◌else◌, IsTrue, length-append, append_assoc, min, ◌<◌}
+use Rattle.std.proofs.lemmas.List.{take-append-drop, take-append-le, drop-take, take_all, drop_all, drop-drop, length-take, length-drop}
 use Rattle.std.proofs.Math.Seq.{take-append-add}
 use borrow.Rule.Slice.PartMut.{put_mid}
 use Rattle.ntfs_base.proofs.BytesLemmas.{take-take}
+use Rattle.ntfs_base.proofs.OverwriteLemmas.{piece-overwrite}
+use Rattle.ntfs_base.specs.Bytes.{overwrite, piece_at}
 use Rattle.ntfs_base.specs.Source.{SourceState, after_take}
 use Rattle.ntfs_clone.specs.Taking.{HasGiven, to_come}
 
@@ -95,3 +97,56 @@ to_come-after n old new told is =
     let given : new.given ≡ old.given + n = ap (λ (s : SourceState). s.given) is ∙ after_take-given n old told in
     let behind : drop n (drop old.given old.bytes) ≡ drop (old.given + n) old.bytes = drop-drop n old.given old.bytes in
     ap (λ (s : SourceState). drop s.given s.bytes) is ∙ ap (λ n. drop n old.bytes) (after_take-given n old told) ∙ sym behind
+
+-- ---- a buffer
+
+-- the bytes that wait, without the first of them
+pub waiting-behind : (start end count : ℕ) (bytes : List ℕ) → count ≤ min (end - start) (length bytes - start)
+    → take (end - (start + count)) (drop (start + count) bytes) ≡ drop count (take (end - start) (drop start bytes))
+waiting-behind start end count bytes within =
+    let there : count + (end - (start + count)) ≡ end - start = omega arith in
+    let less = drop-take count (end - (start + count)) (drop start bytes) in
+    let same : drop count (drop start bytes) ≡ drop (start + count) bytes = drop-drop count start bytes in
+    sym (ap (λ n. drop count (take n (drop start bytes))) (sym there) ∙ less ∙ ap (take (end - (start + count))) same)
+
+-- a part of a slice that was moved to its front
+pub moved-front : (start count : ℕ) (bytes moved : List ℕ) → start + count ≤ length bytes
+    → moved ≡ overwrite 0 (piece_at start count bytes) bytes → take count moved ≡ take count (drop start bytes)
+unfolding piece_at
+moved-front start count bytes moved within is =
+    let size : length (take count (drop start bytes)) ≡ count = simp (length-take, length-drop) (omega arith) in
+    let there = piece-overwrite 0 (piece_at start count bytes) bytes (omega arith) in
+    ap (take count) is ∙ ap (λ n. take n (overwrite 0 (take count (drop start bytes)) bytes)) (sym size) ∙ there
+
+put-front : (count more : ℕ) (into part : List ℕ) → count ≤ length into → more ≤ length part
+    → take (count + more) (put_mid count (length into - count) into part) ≡ take count into ++ take more part
+put-front count more into part within room =
+    let size : length (take count into) ≡ count = simp length-take (omega arith) in
+    let rest = drop (length into - count) (drop count into) in
+    let there : take (length (take count into) + more) (take count into ++ (part ++ rest)) ≡ take count into ++ take more (part ++ rest) = take-append-add (take count into) (part ++ rest) more in
+    ap (λ n. take (n + more) (take count into ++ (part ++ rest))) (sym size) ∙ there
+    ∙ ap (λ xs. take count into ++ xs) (take-append-le more part rest room)
+
+-- what was moved, what was filled behind it, and what is left
+pub refill-bytes : (count more : ℕ) (moved part old new front : List ℕ) → count ≤ length moved → take count moved ≡ front
+    → length part ≡ length (take (length moved - count) (drop count moved))
+    → more ≤ length (take (length moved - count) (drop count moved))
+    → take more part ≡ take (length (take (length moved - count) (drop count moved))) old → new ≡ drop more old
+    → take (count + more) (put_mid count (length moved - count) moved part) ++ new ≡ front ++ old
+refill-bytes count more moved part old new front within begins size room is left =
+    let many = fill-count more (length (take (length moved - count) (drop count moved))) part old (omega (arith, room, size)) size is in
+    let first : take more part ≡ take more old = sym (take_all more (take more part) (simp length-take (omega arith))) ∙ ap (take more) is ∙ take-take more _ old (omega (arith, many)) in
+    ap (λ xs. xs ++ new) (put-front count more moved part within (omega (arith, room, size)) ∙ ap (λ xs. xs ++ take more part) begins)
+    ∙ append_assoc front (take more part) new
+    ∙ ap (λ xs. front ++ (xs ++ new)) first ∙ ap (λ xs. front ++ (take more old ++ xs)) left
+    ∙ ap (λ xs. front ++ xs) (take-append-drop more old)
+
+-- a buffer that isn't full is at the end
+pub refill-end : (count more : ℕ) (moved part old new : List ℕ) → count ≤ length moved → count + more < length moved
+    → length part ≡ length (take (length moved - count) (drop count moved))
+    → more ≤ length (take (length moved - count) (drop count moved))
+    → take more part ≡ take (length (take (length moved - count) (drop count moved))) old → new ≡ drop more old → new ≡ []
+refill-end count more moved part old new within less size room is left =
+    let many = fill-count more (length (take (length moved - count) (drop count moved))) part old (omega (arith, room, size)) size is in
+    let here : length (take (length moved - count) (drop count moved)) ≡ length moved - count = simp (length-take, length-drop) (omega arith) in
+    left ∙ drop_all more old (omega (arith, many, here))

@@ -8,3 +8,4 @@ pub mod Header
 pub mod Commands
 pub mod CloneOf
 pub mod Restored
+pub mod Reading

@@ -1,8 +1,10 @@
 //! Clone images: the clusters of a volume that its files own, in one stream. Here they are read and restored.
 #![tactic(auto)]
 
+mod command;
 mod fault;
 mod header;
+mod input;
 mod taking;
 
 pub use fault::CloneFault;

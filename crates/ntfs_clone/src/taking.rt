@@ -1,6 +1,6 @@
 //! Bytes of a source, in pieces of a wanted length.
 
-ghost use Rattle.std.specs.Prelude.{◌≡◌, ◌≤◌, length, nat_le, take, true, IfOk, IfErr, IsTrue};
+ghost use Rattle.std.specs.Prelude.{◌≡◌, ◌≤◌, ◌<◌, ◌-◌, ◌++◌, [], length, nat_le, take, drop, true, IfOk, IfErr, IsTrue};
 ghost use Rattle.ntfs_base.specs.Source.{after_take};
 ghost use Rattle.ntfs_base.specs.Frames.{OnlyTakes};
 ghost use Rattle.ntfs_clone.specs.Fault.{clone_origin};
@@ -9,6 +9,7 @@ ghost use Rattle.ntfs_clone.specs.declared.fault.CloneFault.TheVariants.{ReadFau
 
 use crate::fault::CloneFault;
 use ntfs_base::Source;
+use ntfs_base::in_place::move_piece;
 
 /// Puts the next bytes at the front of the slice until it is full or the source ends, and answers how many. What stands
 /// behind them may change, and after a fault the slice holds anything.
@@ -53,4 +54,26 @@ pub(crate) fn skip<I: Source>(source: &mut I, count: u64) -> Result<bool, CloneF
         left -= more as u64;
     }
     Ok(true)
+}
+
+/// Moves the bytes of a part to the front of the buffer, fills it behind them from the source and answers how many
+/// bytes stand there.
+pub(crate) fn refill<I: Source>(source: &mut I, buffer: &mut [u8], start: usize, end: usize) -> Result<usize, CloneFault>
+    requires order { start ≤ end }
+    requires within { end ≤ length buffer.old }
+    ensures len { length buffer.new ≡ length buffer.old }
+    ensures room { IfOk result (λ n. n ≤ length buffer.old) }
+    ensures bytes { IfOk result (λ n. IsTrue (I.seen source.old).is_told
+        → take n buffer.new ++ to_come (I.seen source.new)
+        ≡ take (end - start) (drop start buffer.old) ++ to_come (I.seen source.old)) }
+    ensures end { IfOk result (λ n. IsTrue (I.seen source.old).is_told
+        → n < length buffer.old → to_come (I.seen source.new) ≡ []) }
+    ensures kept { HasGiven (I.seen source.old) (I.seen source.new) }
+    ensures fails { IfErr result (λ fault. fault ≡ ReadFault) }
+    ensures takes { OnlyTakes I.Source clone_origin source.old source.new result }
+{
+    let count = end - start;
+    move_piece(buffer, start, count, 0);
+    let more = fill(source, &mut buffer[count..])?;
+    Ok(count + more)
 }
