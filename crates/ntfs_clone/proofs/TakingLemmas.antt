@@ -150,3 +150,9 @@ refill-end count more moved part old new within less size room is left =
     let many = fill-count more (length (take (length moved - count) (drop count moved))) part old (omega (arith, room, size)) size is in
     let here : length (take (length moved - count) (drop count moved)) ≡ length moved - count = simp (length-take, length-drop) (omega arith) in
     left ∙ drop_all more old (omega (arith, many, here))
+
+pub given-none : (s : SourceState) → HasGiven s s
+given-none s = record { count = 0; given = sym (after_take-none s) }
+
+pub told-kept : (old new : SourceState) → HasGiven old new → IsTrue old.is_told → IsTrue new.is_told
+told-kept old new is told = told-after is.count old new told is.given

@@ -1,7 +1,7 @@
 -- The commands of a clone image, which stand behind its header: a gap is the byte 0 and a number of clusters in eight
 -- bytes, a cluster is the byte 1 and its bytes. They cover the volume's clusters in order, and perhaps its tail, which
 -- counts as one cluster more (the stock ntfsclone's image; what is refused and where, and the words, are ours).
-use Rattle.std.specs.Prelude.{◌≡◌, ◌+◌, ◌-◌, ◌*◌, ◌==◌, ◌&&◌, ℕ, zero, suc, Bool, true, false, not, List, [], ◌∷◌, ◌++◌, length, take, drop, replicate, nat_le, nat_lt, if◌then◌else◌, Option, Some, None, Result, Ok}
+use Rattle.std.specs.Prelude.{◌≡◌, ◌+◌, ◌-◌, ◌*◌, ◌==◌, ◌&&◌, ℕ, zero, suc, Bool, true, false, not, List, [], ◌∷◌, ◌++◌, length, take, drop, replicate, nat_le, nat_lt, if◌then◌else◌, Option, Some, None, Result, Ok, Err}
 use Rattle.byteorder.specs.Endian.{little_bytes}
 use Rattle.ntfs_base.specs.Bytes.{number_at}
 use Rattle.ntfs_base.specs.Frames.{must, ◌>>=◌}
@@ -91,14 +91,17 @@ kept_if is (Some command) = if is command then Some command else None
 unfoldable pub next_command : ℕ → ℕ → Bool → List ℕ → Option Command
 next_command c room after_empty bytes = kept_if (may_follow room after_empty) (command_in c bytes)
 
+-- a command, where there is one, and those behind it
+abbrev pub and_behind : Option Command → (Command → List Command) → List Command
+and_behind None behind = []
+and_behind (Some command) behind = command ∷ behind command
+
 -- the commands with which the bytes begin, up to the first that is wrong or cut off; at most so many
 abbrev pub commands_from : ℕ → ℕ → ℕ → Bool → List ℕ → List Command
 commands_from zero c room after_empty bytes = []
 commands_from (suc most) c room after_empty bytes =
-    elim (next_command c room after_empty bytes) [
-      | None ↦ []
-      | Some command ↦ command ∷ commands_from most c (room - covers command) (is_empty_gap command) (drop (command_length command) bytes)
-    ]
+    and_behind (next_command c room after_empty bytes) (λ command.
+    commands_from most c (room - covers command) (is_empty_gap command) (drop (command_length command) bytes))
 
 -- those of an image with this header, of which the bytes behind the header are given: each has a byte at least
 unfoldable pub right_commands : CloneHeader → List ℕ → List Command
@@ -114,6 +117,11 @@ unfoldable pub clone_commands : CloneHeader → List ℕ → Result (List Comman
 clone_commands h bytes = do
   _ ← must (are_all h bytes (right_commands h bytes)) (BadClone (h.offset + commands_length (right_commands h bytes)))
   Ok (right_commands h bytes)
+
+-- the same without them
+abbrev pub emptied : {X E : Type 0} → Result X E → Result (Unit {0}) E
+emptied (Ok x) = Ok tt
+emptied (Err fault) = Err fault
 
 -- ---- the whole image
 

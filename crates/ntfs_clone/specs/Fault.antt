@@ -28,3 +28,10 @@ abbrev pub IsReadFault : CloneFault → Type 0
 IsReadFault (clone.BadClone place) = Unit {0}
 IsReadFault clone.ReadFault = Unit {0}
 IsReadFault other = ⊥
+
+-- the same, or memory was wanting: nothing is written
+abbrev pub IsReadOnlyFault : CloneFault → Type 0
+IsReadOnlyFault (clone.BadClone place) = Unit {0}
+IsReadOnlyFault clone.ReadFault = Unit {0}
+IsReadOnlyFault clone.NoMemory = Unit {0}
+IsReadOnlyFault other = ⊥

@@ -49,3 +49,8 @@ pub record IsBehind (h : CloneHeader) (all : List ℕ) (read : List Command) (p 
   pub place : p.place ≡ h.offset + commands_length read
   pub room : p.room + covered read ≡ h.clusters + 1
   pub bytes : length all ≡ commands_length read + length rest
+
+-- some commands were read so
+pub record HasRead (h : CloneHeader) (all : List ℕ) (p : Progress) (rest : List ℕ) : Type 0 where
+  pub read : List Command
+  pub behind : IsBehind h all read p rest

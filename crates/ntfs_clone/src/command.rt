@@ -18,6 +18,19 @@ pub(crate) enum Next {
     Cluster,
 }
 
+impl Next {
+    /// Its bytes in a clone image.
+    pub(crate) fn length(&self, cluster: usize) -> usize
+        requires { cluster ≤ 65536 }
+        ensures { result ≡ found_length cluster self.now }
+    {
+        match *self {
+            Next::Gap { count: _ } => 9,
+            Next::Cluster => 1 + cluster,
+        }
+    }
+}
+
 /// How far the commands have come.
 #[derive(Clone, Copy)]
 pub(crate) struct Progress {

@@ -5,7 +5,9 @@ mod command;
 mod fault;
 mod header;
 mod input;
+mod reading;
 mod taking;
 
 pub use fault::CloneFault;
 pub use header::{CloneHeader, read_header};
+pub use reading::read_commands;
