@@ -1,3 +1,5 @@
+pub mod WritingLemmas
+pub mod LayoutLemmas
 pub mod ReadingLemmas
 pub mod HeaderLemmas
 pub mod TakingLemmas

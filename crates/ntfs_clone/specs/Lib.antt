@@ -9,3 +9,4 @@ pub mod Commands
 pub mod CloneOf
 pub mod Restored
 pub mod Reading
+pub mod Writing

@@ -6,7 +6,9 @@ mod fault;
 mod header;
 mod input;
 mod reading;
+mod row;
 mod taking;
+mod writing;
 
 pub use fault::CloneFault;
 pub use header::{CloneHeader, read_header};

@@ -1,0 +1,77 @@
+-- What stands on the target, command by command.
+use Rattle.std.proofs.Common.{◌≡◌, ◌≤◌, ◌<◌, ◌+◌, ◌-◌, ◌*◌, ◌⊎◌, inl, inr, ℕ, zero, suc, Bool, true, false, List, [], ◌∷◌, ◌++◌, length, take, drop, replicate, refl, sym, ap, ◌∙◌, subst, arith, min, Result, Ok, Err, IsTrue, length-append, append_assoc}
+use Rattle.std.specs.Prelude.{OnErr, OnOk, IsErr}
+use Rattle.std.proofs.lemmas.List.{length-take, length-replicate, take-append-le, take_all, append-nil}
+use Rattle.std.proofs.Math.Seq.{take-append_seam}
+use Rattle.ntfs_base.specs.Bytes.{overwrite}
+use Rattle.ntfs_base.specs.Frames.{IsSameDevice}
+use Rattle.ntfs_base.specs.Image.{ImageState}
+use Rattle.ntfs_base.specs.Growth.{resize_of}
+use Rattle.ntfs_base.specs.Writes.{Write, Wrote, after_writes, content_after}
+use Rattle.ntfs_base.proofs.BytesLemmas.{take-take}
+use Rattle.ntfs_base.proofs.ContentLemmas.{told-content_after}
+use Rattle.ntfs_clone.specs.declared.header.CloneHeader.{CloneHeader}
+use Rattle.ntfs_clone.specs.declared.row.Row.{Row}
+use Rattle.ntfs_clone.specs.Commands.{Command, gap, cluster, command_content, commands_content}
+use Rattle.ntfs_clone.specs.Restored.{laid_out}
+use Rattle.ntfs_clone.specs.Writing.{Begins, IsFront, IsHeld, IsSameFile}
+use Rattle.ntfs_clone.proofs.LayoutLemmas.{resize-behind, resize-zeros}
+
+same-after : (ws : List Write) (old : ImageState) → IsSameFile old (after_writes ws old)
+unfolding after_writes
+same-after ws old = record { same = record { told = refl; bears = refl; over = refl }; size = refl }
+
+-- writes keep all but the content
+pub same-wrote : {T E : Type 0} (ws : List Write) (old new : ImageState) (result : Result T E) → Wrote ws old result new → IsSameFile old new
+same-wrote ws old new (Ok x) is = subst (IsSameFile old) (sym is.whole) (same-after ws old)
+same-wrote ws old new (Err e) is = subst (IsSameFile old) (sym is.part.2) (same-after (take is.part.0 ws) old)
+
+pub same-file : (old : ImageState) → IsSameFile old old
+same-file old = record { same = record { told = refl; bears = refl; over = refl }; size = refl }
+
+pub same-then : (a b c : ImageState) → IsSameFile a b → IsSameFile b c → IsSameFile a c
+same-then a b c one other = record {
+  same = record { told = other.same.told ∙ one.same.told; bears = other.same.bears ∙ one.same.bears; over = other.same.over ∙ one.same.over };
+  size = other.size ∙ one.size;
+}
+
+-- one write was made, or it wasn't
+pub wrote-one : {T E : Type 0} (w : Write) (old new : ImageState) (fault : E) → Wrote {T = T} (w ∷ []) old (Err fault) new → IsTrue old.is_told
+    → (new.content ≡ old.content) ⊎ (new.content ≡ overwrite w.place w.bytes old.content)
+wrote-one w old new fault is told = which is.part.0 (told-content_after (take is.part.0 (w ∷ [])) old new is.part.2 told)
+  where
+    which : (k : ℕ) → new.content ≡ content_after (take k (w ∷ [])) old.content → (new.content ≡ old.content) ⊎ (new.content ≡ overwrite w.place w.bytes old.content)
+    which zero made = inl made
+    which (suc k) made = inr (made ∙ ap (λ ws. content_after (w ∷ ws) old.content) (none k))
+      where
+        none : (k : ℕ) → take {A = Write} k [] ≡ []
+        none zero = refl
+        none (suc k) = refl
+
+-- the row is written
+pub row-laid : (h : CloneHeader) (read : List Command) (row : Row) (old new : List ℕ) → IsHeld h read row old → row.place ≤ h.device
+    → new ≡ overwrite row.place (take (h.device - row.place) row.bytes.items) old → new ≡ laid_out h (take (length read) read)
+unfolding laid_out
+row-laid h read row old new is within made =
+    made ∙ resize-behind h.device row.place (commands_content h.cluster (take is.written read)) row.bytes.items old is.place within is.laid
+    ∙ ap (resize_of h.device) (is.parts ∙ ap (commands_content h.cluster) (sym (take_all (length read) read (omega arith))))
+
+pub row-written : (h : CloneHeader) (read : List Command) (row next : Row) (old new : List ℕ) → IsHeld h read row old → row.place ≤ h.device
+    → new ≡ overwrite row.place (take (h.device - row.place) row.bytes.items) old → next.bytes.items ≡ [] → next.place ≡ row.place + length row.bytes.items
+    → IsHeld h read next new
+row-written h read row next old new is within made empty place =
+    let all : take (length read) read ≡ read = take_all (length read) read (omega arith) in
+    let long = ap length is.parts in
+    let sum = length-append (commands_content h.cluster (take is.written read)) row.bytes.items in
+    record {
+      written = length read;
+      within = omega arith;
+      place = ap (λ xs. length (commands_content h.cluster xs)) all ∙ omega (arith, long, sum, is.place, place);
+      parts = rw (all, empty) (append-nil _);
+      laid = row-laid h read row old new is within made;
+    }
+
+pub row-failed : (h : CloneHeader) (read : List Command) (row : Row) (old new : List ℕ) → IsHeld h read row old → row.place ≤ h.device
+    → (new ≡ old) ⊎ (new ≡ overwrite row.place (take (h.device - row.place) row.bytes.items) old) → IsFront h read new
+row-failed h read row old new is within (inl same) = record { written = is.written; laid = same ∙ is.laid }
+row-failed h read row old new is within (inr made) = record { written = length read; laid = row-laid h read row old new is within made }
