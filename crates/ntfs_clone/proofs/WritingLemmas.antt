@@ -1,5 +1,5 @@
 -- What stands on the target, command by command.
-use Rattle.std.proofs.Common.{◌≡◌, ◌≤◌, ◌<◌, ◌+◌, ◌-◌, ◌*◌, ◌⊎◌, inl, inr, ℕ, zero, suc, Bool, true, false, List, [], ◌∷◌, ◌++◌, length, take, drop, replicate, refl, sym, ap, ◌∙◌, subst, arith, min, Result, Ok, Err, IsTrue, length-append, append_assoc}
+use Rattle.std.proofs.Common.{◌≡◌, ◌≤◌, ◌<◌, ◌+◌, ◌-◌, ◌*◌, ◌⊎◌, inl, inr, ◌^◌, ℕ, zero, suc, Bool, true, false, List, [], ◌∷◌, ◌++◌, length, take, drop, replicate, refl, sym, ap, ◌∙◌, subst, arith, min, Result, Ok, Err, IsTrue, length-append, append_assoc}
 use Rattle.std.specs.Prelude.{OnErr, OnOk, IsErr}
 use Rattle.std.proofs.lemmas.List.{length-take, length-replicate, take-append-le, take_all, append-nil}
 use Rattle.std.proofs.Math.Seq.{take-append_seam}
@@ -14,7 +14,7 @@ use Rattle.ntfs_clone.specs.declared.header.CloneHeader.{CloneHeader}
 use Rattle.ntfs_clone.specs.declared.row.Row.{Row}
 use Rattle.ntfs_clone.specs.Commands.{Command, gap, cluster, command_content, commands_content}
 use Rattle.ntfs_clone.specs.Restored.{laid_out}
-use Rattle.ntfs_clone.specs.Writing.{Begins, IsFront, IsHeld, IsSameFile}
+use Rattle.ntfs_clone.specs.Writing.{Begins, IsFront, IsHeld, IsSameFile, Reaches}
 use Rattle.ntfs_clone.proofs.LayoutLemmas.{resize-behind, resize-zeros}
 
 same-after : (ws : List Write) (old : ImageState) → IsSameFile old (after_writes ws old)
@@ -75,3 +75,54 @@ pub row-failed : (h : CloneHeader) (read : List Command) (row : Row) (old new : 
     → (new ≡ old) ⊎ (new ≡ overwrite row.place (take (h.device - row.place) row.bytes.items) old) → IsFront h read new
 row-failed h read row old new is within (inl same) = record { written = is.written; laid = same ∙ is.laid }
 row-failed h read row old new is within (inr made) = record { written = length read; laid = row-laid h read row old new is within made }
+
+-- ---- commands
+
+pub content-more : (c : ℕ) (read : List Command) (command : Command) → commands_content c (read ++ command ∷ []) ≡ commands_content c read ++ command_content c command
+content-more c [] command = append-nil (command_content c command)
+content-more c (x ∷ xs) command = ap (λ ys. command_content c x ++ ys) (content-more c xs command) ∙ sym (append_assoc (command_content c x) (commands_content c xs) (command_content c command))
+
+-- a cluster waits behind the others
+pub held-cluster : (h : CloneHeader) (read : List Command) (row next : Row) (content bytes : List ℕ) → IsHeld h read row content
+    → next.bytes.items ≡ row.bytes.items ++ bytes → next.place ≡ row.place → IsHeld h (read ++ cluster bytes ∷ []) next content
+held-cluster h read row next content bytes is items place =
+    let same : take is.written (read ++ cluster bytes ∷ []) ≡ take is.written read = take-append-le is.written read (cluster bytes ∷ []) is.within in
+    let long = length-append read (cluster bytes ∷ []) in
+    record {
+      written = is.written;
+      within = omega (arith, long, is.within);
+      place = ap (λ xs. length (commands_content h.cluster xs)) same ∙ is.place ∙ sym place;
+      parts = ap (λ xs. commands_content h.cluster xs ++ next.bytes.items) same ∙ ap (λ xs. commands_content h.cluster (take is.written read) ++ xs) items
+          ∙ sym (append_assoc (commands_content h.cluster (take is.written read)) row.bytes.items bytes) ∙ ap (λ xs. xs ++ bytes) is.parts
+          ∙ sym (content-more h.cluster read (cluster bytes));
+      laid = is.laid ∙ ap (laid_out h) (sym same);
+    }
+
+-- what was read is written, where nothing waits
+pub held-laid : (h : CloneHeader) (read : List Command) (row : Row) (content : List ℕ) → IsHeld h read row content → row.bytes.items ≡ [] → content ≡ laid_out h read
+unfolding laid_out
+held-laid h read row content is empty =
+    is.laid ∙ ap (resize_of h.device) (sym (append-nil _) ∙ ap (λ xs. commands_content h.cluster (take is.written read) ++ xs) (sym empty) ∙ is.parts)
+
+-- behind a gap
+pub held-gap : (h : CloneHeader) (read : List Command) (row next : Row) (content : List ℕ) (count : ℕ) → IsHeld h read row content
+    → row.bytes.items ≡ [] → next.bytes.items ≡ [] → next.place ≡ row.place + count * h.cluster → IsHeld h (read ++ gap count ∷ []) next content
+unfolding laid_out
+held-gap h read row next content count is empty nothing place =
+    let all : take (length (read ++ gap count ∷ [])) (read ++ gap count ∷ []) ≡ read ++ gap count ∷ [] = take_all (length (read ++ gap count ∷ [])) (read ++ gap count ∷ []) (omega arith) in
+    let zeros = content-more h.cluster read (gap count) in
+    let same : commands_content h.cluster (take is.written read) ≡ commands_content h.cluster read =
+        sym (append-nil _) ∙ ap (λ xs. commands_content h.cluster (take is.written read) ++ xs) (sym empty) ∙ is.parts in
+    let before : length (commands_content h.cluster read) ≡ row.place = ap length (sym same) ∙ is.place in
+    let longer : length (commands_content h.cluster read ++ replicate (count * h.cluster) 0) ≡ length (commands_content h.cluster read) + count * h.cluster = simp (length-append, length-replicate) refl in
+    record {
+      written = length (read ++ gap count ∷ []);
+      within = omega arith;
+      place = ap (λ xs. length (commands_content h.cluster xs)) all ∙ ap length zeros ∙ longer ∙ ap (λ n. n + count * h.cluster) before ∙ sym place;
+      parts = ap (λ xs. commands_content h.cluster xs ++ next.bytes.items) all ∙ ap (λ xs. commands_content h.cluster (read ++ gap count ∷ []) ++ xs) nothing ∙ append-nil _;
+      laid = held-laid h read row content is empty ∙ sym (resize-zeros h.device (count * h.cluster) (commands_content h.cluster read))
+          ∙ ap (resize_of h.device) (sym zeros) ∙ ap (λ xs. resize_of h.device (commands_content h.cluster xs)) (sym all);
+    }
+
+pub held-front : (h : CloneHeader) (read : List Command) (row : Row) (content : List ℕ) → IsHeld h read row content → IsFront h read content
+held-front h read row content is = record { written = is.written; laid = is.laid }

@@ -1,15 +1,18 @@
 -- What stands on a target while a clone image is restored to it. The words are ours.
-use Rattle.std.specs.Prelude.{◌≡◌, ◌≤◌, ◌<◌, ◌+◌, ◌*◌, ◌⊎◌, ℕ, List, ◌++◌, length, take, OnOk, OnErr, IfErr, Result}
+use Rattle.std.specs.Prelude.{◌≡◌, ◌≤◌, ◌<◌, ◌+◌, ◌*◌, ◌⊎◌, ◌==◌, ℕ, Bool, List, ◌++◌, length, take, IsTrue, IfErr, Result, Ok, Err}
 use Rattle.ntfs_base.specs.Causes.{HaveNotFallen, Rose}
 use Rattle.ntfs_base.specs.Frames.{Because, IsSameDevice}
 use Rattle.ntfs_base.specs.Image.{ImageState}
 use Rattle.ntfs_base.specs.declared.image.Image as image
 use Rattle.ntfs_base.specs.declared.source.Source as source
 use Rattle.ntfs_clone.specs.declared.fault.CloneFault.{CloneFault}
+use Rattle.ntfs_clone.specs.declared.fault.CloneFault.TheVariants as clone
+use Rattle.ntfs_clone.specs.declared.command.Progress.{Progress}
 use Rattle.ntfs_clone.specs.declared.header.CloneHeader.{CloneHeader}
 use Rattle.ntfs_clone.specs.declared.row.Row.{Row}
-use Rattle.ntfs_clone.specs.Commands.{Command, commands_content}
+use Rattle.ntfs_clone.specs.Commands.{Command, commands_content, covered, right_commands}
 use Rattle.ntfs_clone.specs.Fault.{clone_origin}
+use Rattle.ntfs_clone.specs.Reading.{HasRead}
 use Rattle.ntfs_clone.specs.Restored.{laid_out}
 
 -- of the commands that were read, the first ones were written, and the bytes of the others wait in the row
@@ -29,11 +32,36 @@ pub record IsFront (h : CloneHeader) (read : List Command) (content : List ℕ) 
 abbrev pub Begins : CloneHeader → Row → Type 0
 Begins h row = 0 < length row.bytes.items → row.place ≤ h.device
 
--- behind the row, and the room that is left, all clusters and the tail end
-abbrev pub Reaches : CloneHeader → ℕ → Row → Type 0
-Reaches h room row = row.place + length row.bytes.items + room * h.cluster ≡ (h.clusters + 1) * h.cluster
+-- behind the row, and the room that is left, all clusters and the tail end; a row that isn't empty has a cluster
+pub record Reaches (h : CloneHeader) (room : ℕ) (row : Row) : Type 0 where
+  pub sum : row.place + length row.bytes.items + room * h.cluster ≡ (h.clusters + 1) * h.cluster
+  pub whole : 0 < length row.bytes.items → h.cluster ≤ length row.bytes.items
 
 -- the same device, and of the same length
 pub record IsSameFile (old new : ImageState) : Type 0 where
   pub same : IsSameDevice old new
   pub size : new.size ≡ old.size
+
+-- of the bytes behind a header some commands were read; where the target tells its content, they were written or wait
+pub record HasRestored (h : CloneHeader) (all : List ℕ) (p : Progress) (rest : List ℕ) (row : Row) (target : ImageState)
+    : Type 0 where
+  pub reading : HasRead h all p rest
+  pub held : IsTrue target.is_told → IsHeld h reading.read row target.content
+
+-- what stands after all commands were to be written: those that are right, where the work was not cut off, and else some
+-- of the first; and whether they end before the tail
+abbrev pub IsWritten : CloneHeader → List ℕ → Result Bool CloneFault → List ℕ → Type 0
+IsWritten h bytes (Ok before_tail) content =
+    (content ≡ laid_out h (right_commands h bytes))
+    × (before_tail ≡ (covered (right_commands h bytes) == h.clusters))
+IsWritten h bytes (Err (clone.BadClone place)) content = content ≡ laid_out h (right_commands h bytes)
+IsWritten h bytes (Err other) content = IsFront h (right_commands h bytes) content
+
+-- a call that takes from a source and writes a file, which it may read
+pub record Restores {I F T : Type 0} (i : source.Ghosts I) (f : image.Ghosts F) (old new : I) (before after : F)
+    (result : Result T CloneFault) : Type 0 where
+  pub takes : i.faults old ≤ i.faults new
+  pub counts : HaveNotFallen (f.faults before) (f.faults after)
+  pub cause : IfErr result (λ fault. Because (clone_origin fault)
+      (Rose (i.faults old) (i.faults new) ⊎ Rose (f.faults before).reads (f.faults after).reads)
+      (Rose (f.faults before).writes (f.faults after).writes) (Unit {0}))

@@ -6,6 +6,7 @@ mod fault;
 mod header;
 mod input;
 mod reading;
+mod restoring;
 mod row;
 mod taking;
 mod writing;

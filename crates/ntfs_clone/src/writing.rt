@@ -3,13 +3,12 @@
 ghost use Rattle.std.specs.Prelude.{◌≡◌, ◌≤◌, ◌<◌, ◌+◌, ◌-◌, ◌*◌, ◌^◌, ◌++◌, ◌∷◌, [], ℕ, List, length, take, IfOk, IfErr, OnOk, OnErr, IsTrue};
 ghost use Rattle.ntfs_base.specs.Frames.{OnlyWrites};
 ghost use Rattle.ntfs_base.specs.Writes.{Wrote};
-ghost use Rattle.ntfs_clone.specs.Commands.{Command, commands_content, covers};
+ghost use Rattle.ntfs_clone.specs.Commands.{Command, cluster, gap};
 ghost use Rattle.ntfs_clone.specs.Fault.{clone_origin};
 ghost use Rattle.ntfs_clone.specs.Header.{IsHeader};
-ghost use Rattle.ntfs_clone.specs.Reading.{IsAllowed, found_in, found_length};
 ghost use Rattle.ntfs_clone.specs.Writing.{Begins, IsFront, IsHeld, IsSameFile, Reaches};
 
-use crate::command::Next;
+use crate::command::Progress;
 use crate::fault::CloneFault;
 use crate::header::CloneHeader;
 use crate::row::Row;
@@ -66,5 +65,85 @@ pub(crate) fn flush<F: HostFile>(header: &CloneHeader, row: &mut Row, target: &m
     write_within(target, header.device, row.place, &row.bytes)?;
     row.place += row.bytes.len() as u64;
     row.bytes.clear();
+    Ok(())
+}
+
+/// Writes the row where it has no room for a further cluster.
+fn make_room<F: HostFile>(header: &CloneHeader, row: &mut Row, target: &mut F) -> Result<(), CloneFault>
+    requires begins { Begins header.now row.old }
+    requires size { (F.seen target.old).size ≡ header.now.device }
+    requires cluster { header.now.cluster ≤ 65536 }
+    requires fits { row.old.place + length row.old.bytes.items < 2 ^ 63 }
+    ensures place { OnOk result (row.new.place + length row.new.bytes.items
+        ≡ row.old.place + length row.old.bytes.items) }
+    ensures whole { OnOk result (length row.new.bytes.items ≤ length row.old.bytes.items) }
+    ensures held { OnOk result ((read : List Command) → IsTrue (F.seen target.old).is_told
+        → IsHeld header.now read row.old (F.seen target.old).content
+        → IsHeld header.now read row.new (F.seen target.new).content) }
+    ensures front { OnErr result ((read : List Command) → IsTrue (F.seen target.old).is_told
+        → IsHeld header.now read row.old (F.seen target.old).content
+        → IsFront header.now read (F.seen target.new).content) }
+    ensures same { IsSameFile (F.seen target.old) (F.seen target.new) }
+    ensures writes { OnlyWrites F.Image clone_origin target.old target.new result }
+{
+    if row.bytes.len() + header.cluster as usize > ROW {
+        flush(header, row, target)
+    } else {
+        Ok(())
+    }
+}
+
+/// Goes on behind so many clusters that are left out: what waits is written, and they stay zeros.
+pub(crate) fn put_gap<F: HostFile>(
+    header: &CloneHeader,
+    count: u64,
+    progress: &Progress,
+    row: &mut Row,
+    target: &mut F,
+) -> Result<(), CloneFault>
+    requires header { IsHeader header.now }
+    requires room { count ≤ progress.now.room }
+    requires reaches { Reaches header.now progress.now.room row.old }
+    requires size { (F.seen target.old).size ≡ header.now.device }
+    ensures reaches { OnOk result (Reaches header.now (progress.now.room - count) row.new) }
+    ensures held { OnOk result ((read : List Command) → IsTrue (F.seen target.old).is_told
+        → IsHeld header.now read row.old (F.seen target.old).content
+        → IsHeld header.now (read ++ gap count ∷ []) row.new (F.seen target.new).content) }
+    ensures front { OnErr result ((read : List Command) → IsTrue (F.seen target.old).is_told
+        → IsHeld header.now read row.old (F.seen target.old).content
+        → IsFront header.now read (F.seen target.new).content) }
+    ensures same { IsSameFile (F.seen target.old) (F.seen target.new) }
+    ensures writes { OnlyWrites F.Image clone_origin target.old target.new result }
+{
+    flush(header, row, target)?;
+    row.place += count * u64::from(header.cluster);
+    Ok(())
+}
+
+/// Puts a cluster behind those that wait.
+pub(crate) fn put_cluster<F: HostFile>(
+    header: &CloneHeader,
+    bytes: &[u8],
+    progress: &Progress,
+    row: &mut Row,
+    target: &mut F,
+) -> Result<(), CloneFault>
+    requires header { IsHeader header.now }
+    requires room { 0 < progress.now.room }
+    requires bytes { length bytes.now ≡ header.now.cluster }
+    requires reaches { Reaches header.now progress.now.room row.old }
+    requires size { (F.seen target.old).size ≡ header.now.device }
+    ensures reaches { OnOk result (Reaches header.now (progress.now.room - 1) row.new) }
+    ensures held { OnOk result ((read : List Command) → IsTrue (F.seen target.old).is_told
+        → IsHeld header.now read row.old (F.seen target.old).content
+        → IsHeld header.now (read ++ cluster bytes.now ∷ []) row.new (F.seen target.new).content) }
+    ensures front { OnErr result ((read : List Command) → IsTrue (F.seen target.old).is_told
+        → IsHeld header.now read row.old (F.seen target.old).content
+        → IsFront header.now read (F.seen target.new).content) }
+    ensures same { IsSameFile (F.seen target.old) (F.seen target.new) }
+    ensures writes { OnlyWrites F.Image clone_origin target.old target.new result }
+{
+    make_room(header, row, target)?;
+    row.bytes.extend_from_slice(bytes)?;
     Ok(())
 }

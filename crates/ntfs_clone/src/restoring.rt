@@ -1,0 +1,89 @@
+//! A clone image that is restored to a file.
+
+ghost use Rattle.std.specs.Prelude.{◌≡◌, ◌≤◌, ◌<◌, ◌+◌, ◌-◌, ◌*◌, ◌⊎◌, ◌++◌, ◌∷◌, ◌==◌, [], List, length, take, true, IfOk, IfErr, IsOk, OnOk, OnErr, IsTrue};
+ghost use Rattle.ntfs_base.specs.Frames.{Gives, OnlyWrites};
+ghost use Rattle.ntfs_clone.specs.Commands.{Command, clone_commands, covers, emptied, right_commands};
+ghost use Rattle.ntfs_clone.specs.Fault.{clone_origin};
+ghost use Rattle.ntfs_clone.specs.Header.{IsHeader};
+ghost use Rattle.ntfs_clone.specs.Reading.{IsAllowed, found_in, found_length};
+ghost use Rattle.ntfs_clone.specs.Restored.{laid_out};
+ghost use Rattle.ntfs_clone.specs.Taking.{HasGiven, to_come};
+ghost use Rattle.ntfs_clone.specs.Writing.{IsFront, IsHeld, IsSameFile, IsWritten, Reaches, Restores};
+
+use crate::command::{Next, Progress};
+use crate::fault::CloneFault;
+use crate::header::CloneHeader;
+use crate::input::Input;
+use crate::reading::{BUFFER, end, next};
+use crate::row::Row;
+use crate::writing::{flush, new_row, put_cluster, put_gap};
+use ntfs_base::{HostFile, Source};
+use std::alloc::Global;
+
+/// Puts what a command says behind what was put before. Its bytes begin these.
+fn put<F: HostFile>(
+    header: &CloneHeader,
+    command: &Next,
+    bytes: &[u8],
+    progress: &Progress,
+    row: &mut Row,
+    target: &mut F,
+) -> Result<(), CloneFault>
+    requires header { IsHeader header.now }
+    requires allowed { IsAllowed progress.now.room progress.now.after_empty command.now }
+    requires whole { found_length header.now.cluster command.now ≤ length bytes.now }
+    requires reaches { Reaches header.now progress.now.room row.old }
+    requires size { (F.seen target.old).size ≡ header.now.device }
+    ensures reaches { OnOk result (Reaches header.now
+        (progress.now.room - covers (found_in header.now.cluster bytes.now command.now)) row.new) }
+    ensures held { OnOk result ((read : List Command) → IsTrue (F.seen target.old).is_told
+        → IsHeld header.now read row.old (F.seen target.old).content
+        → IsHeld header.now (read ++ found_in header.now.cluster bytes.now command.now ∷ []) row.new
+        (F.seen target.new).content) }
+    ensures front { OnErr result ((read : List Command) → IsTrue (F.seen target.old).is_told
+        → IsHeld header.now read row.old (F.seen target.old).content
+        → IsFront header.now read (F.seen target.new).content) }
+    ensures same { IsSameFile (F.seen target.old) (F.seen target.new) }
+    ensures writes { OnlyWrites F.Image clone_origin target.old target.new result }
+{
+    match *command {
+        Next::Gap { count } => put_gap(header, count, progress, row, target),
+        Next::Cluster => {
+            let cluster = &bytes[1..1 + header.cluster as usize];
+            put_cluster(header, cluster, progress, row, target)
+        }
+    }
+}
+
+/// Reads all commands and writes what they say, in rows. It answers whether they end before the tail.
+fn write_commands<I: Source, F: HostFile>(
+    alloc: Global,
+    header: &CloneHeader,
+    source: &mut I,
+    target: &mut F,
+) -> Result<bool, CloneFault>
+    requires header { IsHeader header.now }
+    requires size { (F.seen target.old).size ≡ header.now.device }
+    requires empty { IsTrue (F.seen target.old).is_told → (F.seen target.old).content ≡ laid_out header.now [] }
+    ensures gives { IsTrue (I.seen source.old).is_told → Gives clone_origin (λ before_tail. tt)
+        (emptied (clone_commands header.now (to_come (I.seen source.old)))) result }
+    ensures end { OnOk result (IsTrue (I.seen source.old).is_told → to_come (I.seen source.new) ≡ []) }
+    ensures written { IsTrue (I.seen source.old).is_told → IsTrue (F.seen target.old).is_told
+        → IsWritten header.now (to_come (I.seen source.old)) result (F.seen target.new).content }
+    ensures kept { HasGiven (I.seen source.old) (I.seen source.new) }
+    ensures same { IsSameFile (F.seen target.old) (F.seen target.new) }
+    ensures restores { Restores I.Source F.Image source.old source.new target.old target.new result }
+{
+    let cluster = header.cluster as usize;
+    let mut input = Input::new(alloc, BUFFER)?;
+    let mut row = new_row(alloc)?;
+    let mut progress = Progress::new(header);
+    'commands: while let Some(command) = next(&mut input, source, cluster, &progress)? {
+        put(header, &command, input.waiting(), &progress, &mut row, target)?;
+        progress = progress.behind(&command, cluster);
+        input.pass(command.length(cluster));
+    }
+    flush(header, &mut row, target)?;
+    end(&input, &progress)?;
+    Ok(progress.room == 1)
+}
