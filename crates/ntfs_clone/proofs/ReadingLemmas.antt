@@ -145,6 +145,25 @@ ends-so h all read p rest is none =
     both false = ap (λ n. Err (BadClone n)) (sym is.place)
 
 -- one more command was read
+pub behind-next : (h : CloneHeader) (all : List ℕ) (read : List Command) (p q : Progress) (rest here more left : List ℕ) (found : Option Next) (command : Next)
+    → IsBehind h all read p rest → here ++ more ≡ rest
+    → option_map (found_in h.cluster here) found ≡ next_command h.cluster p.room p.after_empty (here ++ more) → found ≡ Some command
+    → IsAllowed p.room p.after_empty command → found_length h.cluster command ≤ length here
+    → q.room ≡ p.room - covers (found_in h.cluster here command) → q.after_empty ≡ is_empty_gap (found_in h.cluster here command)
+    → q.place ≡ p.place + found_length h.cluster command → left ≡ drop (found_length h.cluster command) here
+    → IsBehind h all (read ++ found_in h.cluster here command ∷ []) q (left ++ more)
+behind-next h all read p q rest here more left found command is same exact some allowed whole room after place passed =
+    let x = found_in h.cluster here command in
+    let size : command_length x ≡ found_length h.cluster command = found-length h.cluster here command whole in
+    let next : next_command h.cluster p.room p.after_empty rest ≡ Some x =
+        ap (next_command h.cluster p.room p.after_empty) (sym same) ∙ sym exact ∙ ap (option_map (found_in h.cluster here)) some in
+    let long : length rest ≡ length here + length more = ap length (sym same) ∙ length-append here more in
+    let behind = behind-step h all read p q rest x is next (omega (arith, size, long)) (found-covers h.cluster p.room p.after_empty here command allowed) room after (place ∙ ap (λ n. p.place + n) (sym size)) in
+    let where_now : drop (command_length x) rest ≡ left ++ more =
+        ap (λ n. drop n rest) size ∙ ap (drop (found_length h.cluster command)) (sym same) ∙ drop-append-le (found_length h.cluster command) here more whole
+        ∙ ap (λ xs. xs ++ more) (sym passed) in
+    subst (λ (xs : List ℕ). IsBehind h all (read ++ x ∷ []) q xs) where_now behind
+
 pub read-step : (h : CloneHeader) (all : List ℕ) (p q : Progress) (rest here more left : List ℕ) (found : Option Next) (command : Next)
     → HasRead h all p rest → here ++ more ≡ rest
     → option_map (found_in h.cluster here) found ≡ next_command h.cluster p.room p.after_empty (here ++ more) → found ≡ Some command
@@ -152,17 +171,10 @@ pub read-step : (h : CloneHeader) (all : List ℕ) (p q : Progress) (rest here m
     → q.room ≡ p.room - covers (found_in h.cluster here command) → q.after_empty ≡ is_empty_gap (found_in h.cluster here command)
     → q.place ≡ p.place + found_length h.cluster command → left ≡ drop (found_length h.cluster command) here
     → HasRead h all q (left ++ more)
-read-step h all p q rest here more left found command is same exact some allowed whole room after place passed =
-    let x = found_in h.cluster here command in
-    let size : command_length x ≡ found_length h.cluster command = found-length h.cluster here command whole in
-    let next : next_command h.cluster p.room p.after_empty rest ≡ Some x =
-        ap (next_command h.cluster p.room p.after_empty) (sym same) ∙ sym exact ∙ ap (option_map (found_in h.cluster here)) some in
-    let long : length rest ≡ length here + length more = ap length (sym same) ∙ length-append here more in
-    let behind = behind-step h all is.read p q rest x is.behind next (omega (arith, size, long)) (found-covers h.cluster p.room p.after_empty here command allowed) room after (place ∙ ap (λ n. p.place + n) (sym size)) in
-    let where_now : drop (command_length x) rest ≡ left ++ more =
-        ap (λ n. drop n rest) size ∙ ap (drop (found_length h.cluster command)) (sym same) ∙ drop-append-le (found_length h.cluster command) here more whole
-        ∙ ap (λ xs. xs ++ more) (sym passed) in
-    record { read = is.read ++ x ∷ []; behind = subst (λ (xs : List ℕ). IsBehind h all (is.read ++ x ∷ []) q xs) where_now behind }
+read-step h all p q rest here more left found command is same exact some allowed whole room after place passed = record {
+  read = is.read ++ found_in h.cluster here command ∷ [];
+  behind = behind-next h all is.read p q rest here more left found command is.behind same exact some allowed whole room after place passed;
+}
 
 -- nothing waits and nothing is left to give, or more than one cluster is still to be covered
 pub waits-none : (c : ℕ) (here more : List ℕ) → (length here < c + 1 → more ≡ []) → nat_eq (length here) 0 ≡ nat_eq (length (here ++ more)) 0
@@ -182,3 +194,19 @@ read-end h all p rest here more found result is same enough exact none said =
     ends-so h all is.read p rest is.behind next
     ∙ ap (λ xs. must (nat_eq (length xs) 0 && nat_le p.room 1) (BadClone p.place)) (sym same)
     ∙ ap (λ b. must (b && nat_le p.room 1) (BadClone p.place)) (sym (waits-none h.cluster here more enough)) ∙ sym said
+
+-- what was read, where none follows
+pub read-all : (h : CloneHeader) (all : List ℕ) (commands : List Command) (p : Progress) (rest here more : List ℕ) (found : Option Next)
+    → IsBehind h all commands p rest → here ++ more ≡ rest
+    → option_map (found_in h.cluster here) found ≡ next_command h.cluster p.room p.after_empty (here ++ more) → found ≡ None
+    → right_commands h all ≡ commands
+read-all h all commands p rest here more found is same exact none =
+    behind-end h all commands p rest is
+    (ap (next_command h.cluster p.room p.after_empty) (sym same) ∙ sym exact ∙ ap (option_map (found_in h.cluster here)) none)
+
+-- the commands end before the tail
+pub before-tail : (h : CloneHeader) (all : List ℕ) (commands : List Command) (p : Progress) (rest : List ℕ) → IsBehind h all commands p rest
+    → nat_eq p.room 1 ≡ nat_eq (covered commands) h.clusters
+before-tail h all commands p rest is =
+    same-tests _ _ (λ one. let e = eqb-true p.room 1 one in eq-eqb (covered commands) h.clusters (omega (arith, e, is.room)))
+    (λ whole. let e = eqb-true (covered commands) h.clusters whole in eq-eqb p.room 1 (omega (arith, e, is.room)))

@@ -1,20 +1,24 @@
 -- What stands on the target, command by command.
-use Rattle.std.proofs.Common.{◌≡◌, ◌≤◌, ◌<◌, ◌+◌, ◌-◌, ◌*◌, ◌⊎◌, inl, inr, ◌^◌, ℕ, zero, suc, Bool, true, false, List, [], ◌∷◌, ◌++◌, length, take, drop, replicate, refl, sym, ap, ◌∙◌, subst, arith, min, Result, Ok, Err, IsTrue, length-append, append_assoc}
+use Rattle.std.proofs.Common.{◌≡◌, ◌≤◌, ◌<◌, ◌+◌, ◌-◌, ◌*◌, ◌⊎◌, inl, inr, ◌^◌, ℕ, zero, suc, Bool, true, false, List, [], ◌∷◌, ◌++◌, length, take, drop, replicate, refl, sym, ap, ◌∙◌, subst, arith, min, nat_le, Result, Ok, Err, IsTrue, length-append, append_assoc}
 use Rattle.std.specs.Prelude.{OnErr, OnOk, IsErr}
+use Rattle.std.proofs.lemmas.Bool.{leb-false, leb-true}
 use Rattle.std.proofs.lemmas.List.{length-take, length-replicate, take-append-le, take_all, append-nil}
 use Rattle.std.proofs.Math.Seq.{take-append_seam}
 use Rattle.ntfs_base.specs.Bytes.{overwrite}
-use Rattle.ntfs_base.specs.Frames.{IsSameDevice}
+use Rattle.ntfs_base.specs.Frames.{IsSameDevice, IsSettled}
 use Rattle.ntfs_base.specs.Image.{ImageState}
 use Rattle.ntfs_base.specs.Growth.{resize_of}
 use Rattle.ntfs_base.specs.Writes.{Write, Wrote, after_writes, content_after}
 use Rattle.ntfs_base.proofs.BytesLemmas.{take-take}
 use Rattle.ntfs_base.proofs.ContentLemmas.{told-content_after}
+use Rattle.ntfs_clone.specs.declared.fault.CloneFault.{CloneFault}
+use Rattle.ntfs_clone.specs.declared.fault.CloneFault.TheVariants as clone
+use Rattle.ntfs_clone.specs.Fault.{IsWriteFault, clone_origin}
 use Rattle.ntfs_clone.specs.declared.header.CloneHeader.{CloneHeader}
 use Rattle.ntfs_clone.specs.declared.row.Row.{Row}
-use Rattle.ntfs_clone.specs.Commands.{Command, gap, cluster, command_content, commands_content}
+use Rattle.ntfs_clone.specs.Commands.{Command, gap, cluster, command_content, commands_content, right_commands}
 use Rattle.ntfs_clone.specs.Restored.{laid_out}
-use Rattle.ntfs_clone.specs.Writing.{Begins, IsFront, IsHeld, IsSameFile, Reaches}
+use Rattle.ntfs_clone.specs.Writing.{IsFront, IsHeld, IsSameFile, IsWritten}
 use Rattle.ntfs_clone.proofs.LayoutLemmas.{resize-behind, resize-zeros}
 
 same-after : (ws : List Write) (old : ImageState) → IsSameFile old (after_writes ws old)
@@ -126,3 +130,54 @@ held-gap h read row next content count is empty nothing place =
 
 pub held-front : (h : CloneHeader) (read : List Command) (row : Row) (content : List ℕ) → IsHeld h read row content → IsFront h read content
 held-front h read row content is = record { written = is.written; laid = is.laid }
+
+-- ---- what stands in the end
+
+take-min : {X : Type 0} (k : ℕ) (xs ys : List X) → take (min k (length xs)) (xs ++ ys) ≡ take k xs
+take-min k xs ys =
+    take-append-le (min k (length xs)) xs ys (omega arith) ∙ two (nat_le k (length xs)) refl
+  where
+    two : (b : Bool) → nat_le k (length xs) ≡ b → take (min k (length xs)) xs ≡ take k xs
+    two true is = let less = leb-true k (length xs) is in let e : min k (length xs) ≡ k = omega arith in ap (λ n. take n xs) e
+    two false is = let more = leb-false k (length xs) is in take_all (min k (length xs)) xs (omega arith) ∙ sym (take_all k xs (omega arith))
+
+-- a front of those that were read is one of all that are right
+pub front-of : (h : CloneHeader) (all read more : List Command) (content : List ℕ) → all ≡ read ++ more → IsFront h read content → IsFront h all content
+front-of h all read more content are is = record {
+  written = min is.written (length read);
+  laid = is.laid ∙ ap (laid_out h) (sym (ap (take (min is.written (length read))) are ∙ take-min is.written read more));
+}
+
+pub front-none : (h : CloneHeader) (read : List Command) (content : List ℕ) → content ≡ laid_out h [] → IsFront h read content
+front-none h read content is = record { written = 0; laid = is }
+
+-- the work was cut off
+pub written-cut : (h : CloneHeader) (bytes content : List ℕ) (fault : CloneFault) → (IsSettled (clone_origin fault) → ⊥)
+    → IsFront h (right_commands h bytes) content → IsWritten h bytes (Err fault) content
+written-cut h bytes content (clone.BadClone place) cut is = absurd (cut tt)
+written-cut h bytes content (clone.Damaged rule number) cut is = absurd (cut tt)
+written-cut h bytes content clone.ReadFault cut is = is
+written-cut h bytes content clone.WriteFault cut is = is
+written-cut h bytes content clone.NoMemory cut is = is
+
+-- all right commands were written
+pub written-whole : (h : CloneHeader) (bytes content : List ℕ) (fault : CloneFault) → content ≡ laid_out h (right_commands h bytes) → IsWritten h bytes (Err fault) content
+written-whole h bytes content (clone.BadClone place) is = is
+written-whole h bytes content (clone.Damaged rule number) is = all_front h bytes content is
+  where
+    all_front : (h : CloneHeader) (bytes content : List ℕ) → content ≡ laid_out h (right_commands h bytes) → IsFront h (right_commands h bytes) content
+    all_front h bytes content is = record { written = length (right_commands h bytes); laid = is ∙ ap (laid_out h) (sym (take_all _ (right_commands h bytes) (omega arith))) }
+written-whole h bytes content clone.ReadFault is = record { written = length (right_commands h bytes); laid = is ∙ ap (laid_out h) (sym (take_all _ (right_commands h bytes) (omega arith))) }
+written-whole h bytes content clone.WriteFault is = record { written = length (right_commands h bytes); laid = is ∙ ap (laid_out h) (sym (take_all _ (right_commands h bytes) (omega arith))) }
+written-whole h bytes content clone.NoMemory is = record { written = length (right_commands h bytes); laid = is ∙ ap (laid_out h) (sym (take_all _ (right_commands h bytes) (omega arith))) }
+
+pub write-unsettled : (fault : CloneFault) → IsWriteFault fault → IsSettled (clone_origin fault) → ⊥
+write-unsettled (clone.BadClone place) is settled = is
+write-unsettled (clone.Damaged rule number) is settled = is
+write-unsettled clone.ReadFault is settled = settled
+write-unsettled clone.WriteFault is settled = settled
+write-unsettled clone.NoMemory is settled = settled
+
+-- before the first command
+pub held-start : (h : CloneHeader) (row : Row) (content : List ℕ) → row.bytes.items ≡ [] → row.place ≡ 0 → content ≡ laid_out h [] → IsHeld h [] row content
+held-start h row content empty place is = record { written = 0; within = omega arith; place = sym place; parts = empty; laid = is }

@@ -35,3 +35,9 @@ IsReadOnlyFault (clone.BadClone place) = Unit {0}
 IsReadOnlyFault clone.ReadFault = Unit {0}
 IsReadOnlyFault clone.NoMemory = Unit {0}
 IsReadOnlyFault other = ⊥
+
+-- a write failed, or memory was wanting
+abbrev pub IsWriteFault : CloneFault → Type 0
+IsWriteFault clone.WriteFault = Unit {0}
+IsWriteFault clone.NoMemory = Unit {0}
+IsWriteFault other = ⊥

@@ -3,7 +3,7 @@
 ghost use Rattle.std.specs.Prelude.{◌≡◌, ◌≤◌, ◌<◌, ◌+◌, ◌-◌, ◌*◌, ◌⊎◌, ◌++◌, ◌∷◌, ◌==◌, [], List, length, take, true, IfOk, IfErr, IsOk, OnOk, OnErr, IsTrue};
 ghost use Rattle.ntfs_base.specs.Frames.{Gives, OnlyWrites};
 ghost use Rattle.ntfs_clone.specs.Commands.{Command, clone_commands, covers, emptied, right_commands};
-ghost use Rattle.ntfs_clone.specs.Fault.{clone_origin};
+ghost use Rattle.ntfs_clone.specs.Fault.{IsWriteFault, clone_origin};
 ghost use Rattle.ntfs_clone.specs.Header.{IsHeader};
 ghost use Rattle.ntfs_clone.specs.Reading.{IsAllowed, found_in, found_length};
 ghost use Rattle.ntfs_clone.specs.Restored.{laid_out};
@@ -44,6 +44,7 @@ fn put<F: HostFile>(
         → IsHeld header.now read row.old (F.seen target.old).content
         → IsFront header.now read (F.seen target.new).content) }
     ensures same { IsSameFile (F.seen target.old) (F.seen target.new) }
+    ensures fails { IfErr result IsWriteFault }
     ensures writes { OnlyWrites F.Image clone_origin target.old target.new result }
 {
     match *command {

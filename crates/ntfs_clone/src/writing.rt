@@ -4,7 +4,7 @@ ghost use Rattle.std.specs.Prelude.{◌≡◌, ◌≤◌, ◌<◌, ◌+◌, ◌-
 ghost use Rattle.ntfs_base.specs.Frames.{OnlyWrites};
 ghost use Rattle.ntfs_base.specs.Writes.{Wrote};
 ghost use Rattle.ntfs_clone.specs.Commands.{Command, cluster, gap};
-ghost use Rattle.ntfs_clone.specs.Fault.{clone_origin};
+ghost use Rattle.ntfs_clone.specs.Fault.{IsWriteFault, clone_origin};
 ghost use Rattle.ntfs_clone.specs.Header.{IsHeader};
 ghost use Rattle.ntfs_clone.specs.Writing.{Begins, IsFront, IsHeld, IsSameFile, Reaches};
 
@@ -35,6 +35,7 @@ fn write_within<F: HostFile>(target: &mut F, device: u64, place: u64, bytes: &[u
     requires size { (F.seen target.old).size ≡ device }
     ensures wrote { Wrote (record { place = place; bytes = take (device - place) bytes.now } ∷ [])
         (F.seen target.old) result (F.seen target.new) }
+    ensures fails { IfErr result IsWriteFault }
     ensures writes { OnlyWrites F.Image clone_origin target.old target.new result }
 {
     let count = (bytes.len() as u64).min(device - place) as usize;
@@ -57,6 +58,7 @@ pub(crate) fn flush<F: HostFile>(header: &CloneHeader, row: &mut Row, target: &m
         → IsHeld header.now read row.old (F.seen target.old).content
         → IsFront header.now read (F.seen target.new).content) }
     ensures same { IsSameFile (F.seen target.old) (F.seen target.new) }
+    ensures fails { IfErr result IsWriteFault }
     ensures writes { OnlyWrites F.Image clone_origin target.old target.new result }
 {
     if row.bytes.len() == 0 {
@@ -84,6 +86,7 @@ fn make_room<F: HostFile>(header: &CloneHeader, row: &mut Row, target: &mut F) -
         → IsHeld header.now read row.old (F.seen target.old).content
         → IsFront header.now read (F.seen target.new).content) }
     ensures same { IsSameFile (F.seen target.old) (F.seen target.new) }
+    ensures fails { IfErr result IsWriteFault }
     ensures writes { OnlyWrites F.Image clone_origin target.old target.new result }
 {
     if row.bytes.len() + header.cluster as usize > ROW {
@@ -113,6 +116,7 @@ pub(crate) fn put_gap<F: HostFile>(
         → IsHeld header.now read row.old (F.seen target.old).content
         → IsFront header.now read (F.seen target.new).content) }
     ensures same { IsSameFile (F.seen target.old) (F.seen target.new) }
+    ensures fails { IfErr result IsWriteFault }
     ensures writes { OnlyWrites F.Image clone_origin target.old target.new result }
 {
     flush(header, row, target)?;
@@ -141,6 +145,7 @@ pub(crate) fn put_cluster<F: HostFile>(
         → IsHeld header.now read row.old (F.seen target.old).content
         → IsFront header.now read (F.seen target.new).content) }
     ensures same { IsSameFile (F.seen target.old) (F.seen target.new) }
+    ensures fails { IfErr result IsWriteFault }
     ensures writes { OnlyWrites F.Image clone_origin target.old target.new result }
 {
     make_room(header, row, target)?;
