@@ -18,7 +18,7 @@ use Rattle.ntfs_clone.specs.declared.header.CloneHeader.{CloneHeader}
 use Rattle.ntfs_clone.specs.declared.row.Row.{Row}
 use Rattle.ntfs_clone.specs.Commands.{Command, gap, cluster, command_content, commands_content, right_commands}
 use Rattle.ntfs_clone.specs.Restored.{laid_out}
-use Rattle.ntfs_clone.specs.Writing.{IsFront, IsHeld, IsSameFile, IsWritten}
+use Rattle.ntfs_clone.specs.Writing.{IsFront, IsHeld, IsSameFile, IsWritten, Makes}
 use Rattle.ntfs_clone.proofs.LayoutLemmas.{resize-behind, resize-zeros}
 
 same-after : (ws : List Write) (old : ImageState) → IsSameFile old (after_writes ws old)
@@ -181,3 +181,15 @@ write-unsettled clone.NoMemory is settled = settled
 -- before the first command
 pub held-start : (h : CloneHeader) (row : Row) (content : List ℕ) → row.bytes.items ≡ [] → row.place ≡ 0 → content ≡ laid_out h [] → IsHeld h [] row content
 held-start h row content empty place is = record { written = 0; within = omega arith; place = sym place; parts = empty; laid = is }
+
+-- one write makes the content that was asked, or leaves it
+pub makes-wrote : {T E : Type 0} (w : Write) (text : List ℕ) (old new : ImageState) (result : Result T E) → Wrote (w ∷ []) old result new → IsTrue old.is_told
+    → w.bytes ≡ text → Makes (overwrite w.place text old.content) old.content result new.content
+makes-wrote w text old new (Ok x) is told same = record {
+  whole = told-content_after (w ∷ []) old new is.whole told ∙ ap (λ xs. overwrite w.place xs old.content) same;
+  part = tt;
+}
+makes-wrote {T = T} w text old new (Err e) is told same = record {
+  whole = tt;
+  part = elim (wrote-one {T = T} w old new e is told) [ inl left ↦ inl left | inr made ↦ inr (made ∙ ap (λ xs. overwrite w.place xs old.content) same) ];
+}

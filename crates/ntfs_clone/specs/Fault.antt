@@ -41,3 +41,9 @@ abbrev pub IsWriteFault : CloneFault → Type 0
 IsWriteFault clone.WriteFault = Unit {0}
 IsWriteFault clone.NoMemory = Unit {0}
 IsWriteFault other = ⊥
+
+-- a read or a write of a file failed
+abbrev pub IsFileFault : CloneFault → Type 0
+IsFileFault clone.ReadFault = Unit {0}
+IsFileFault clone.WriteFault = Unit {0}
+IsFileFault other = ⊥

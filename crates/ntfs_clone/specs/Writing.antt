@@ -1,5 +1,5 @@
 -- What stands on a target while a clone image is restored to it. The words are ours.
-use Rattle.std.specs.Prelude.{◌≡◌, ◌≤◌, ◌<◌, ◌+◌, ◌*◌, ◌⊎◌, ◌==◌, ℕ, Bool, List, ◌++◌, length, take, IsTrue, IfErr, Result, Ok, Err}
+use Rattle.std.specs.Prelude.{◌≡◌, ◌≤◌, ◌<◌, ◌+◌, ◌*◌, ◌⊎◌, ◌==◌, ℕ, Bool, List, ◌++◌, length, take, IsTrue, IfErr, OnErr, OnOk, Result, Ok, Err}
 use Rattle.ntfs_base.specs.Causes.{HaveNotFallen, Rose}
 use Rattle.ntfs_base.specs.Frames.{Because, IsSameDevice}
 use Rattle.ntfs_base.specs.Image.{ImageState}
@@ -64,4 +64,15 @@ pub record Restores {I F T : Type 0} (i : source.Ghosts I) (f : image.Ghosts F) 
   pub counts : HaveNotFallen (f.faults before) (f.faults after)
   pub cause : IfErr result (λ fault. Because (clone_origin fault)
       (Rose (i.faults old) (i.faults new) ⊎ Rose (f.faults before).reads (f.faults after).reads)
+      (Rose (f.faults before).writes (f.faults after).writes) (Unit {0}))
+
+-- a call that had to make a content of another one made it, or, where it failed, made it or left it
+pub record Makes {T E : Type 0} (asked old : List ℕ) (result : Result T E) (new : List ℕ) : Type 0 where
+  pub whole : OnOk result (new ≡ asked)
+  pub part : OnErr result ((new ≡ old) ⊎ (new ≡ asked))
+
+-- a call over a file that is read and written
+pub record OnlyChanges {F T : Type 0} (f : image.Ghosts F) (before after : F) (result : Result T CloneFault) : Type 0 where
+  pub counts : HaveNotFallen (f.faults before) (f.faults after)
+  pub cause : IfErr result (λ fault. Because (clone_origin fault) (Rose (f.faults before).reads (f.faults after).reads)
       (Rose (f.faults before).writes (f.faults after).writes) (Unit {0}))

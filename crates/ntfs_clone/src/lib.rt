@@ -1,6 +1,7 @@
 //! Clone images: the clusters of a volume that its files own, in one stream. Here they are read and restored.
 #![tactic(auto)]
 
+mod backup;
 mod command;
 mod fault;
 mod header;

@@ -6,6 +6,7 @@ ghost use Rattle.ntfs_base.specs.Writes.{Wrote};
 ghost use Rattle.ntfs_clone.specs.Commands.{Command, cluster, gap};
 ghost use Rattle.ntfs_clone.specs.Fault.{IsWriteFault, clone_origin};
 ghost use Rattle.ntfs_clone.specs.Header.{IsHeader};
+ghost use Rattle.ntfs_clone.specs.declared.fault.CloneFault.TheVariants.{WriteFault};
 ghost use Rattle.ntfs_clone.specs.Writing.{Begins, IsFront, IsHeld, IsSameFile, Reaches};
 
 use crate::command::Progress;
@@ -30,12 +31,12 @@ pub(crate) fn new_row(alloc: Global) -> Result<Row, AllocError>
 }
 
 /// Writes bytes at a place on a device of this length; what passes its end is cut off.
-fn write_within<F: HostFile>(target: &mut F, device: u64, place: u64, bytes: &[u8]) -> Result<(), CloneFault>
+pub(crate) fn write_within<F: HostFile>(target: &mut F, device: u64, place: u64, bytes: &[u8]) -> Result<(), CloneFault>
     requires within { place ≤ device }
     requires size { (F.seen target.old).size ≡ device }
     ensures wrote { Wrote (record { place = place; bytes = take (device - place) bytes.now } ∷ [])
         (F.seen target.old) result (F.seen target.new) }
-    ensures fails { IfErr result IsWriteFault }
+    ensures fails { IfErr result (λ fault. fault ≡ WriteFault) }
     ensures writes { OnlyWrites F.Image clone_origin target.old target.new result }
 {
     let count = (bytes.len() as u64).min(device - place) as usize;
