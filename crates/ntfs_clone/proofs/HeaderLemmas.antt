@@ -1,7 +1,6 @@
 -- The header of a clone image, read from its first 50 bytes.
-use Rattle.std.proofs.Common.{◌≡◌, ◌≤◌, ◌<◌, ◌+◌, ◌-◌, ℕ, Bool, true, false, List, length, take, drop, replicate, ◌++◌, refl, sym, ap, ◌∙◌, arith, min, nat_le, nat_lt, Result, Ok, Err, if◌then◌else◌}
-use Rattle.std.proofs.lemmas.Bool.{le-leb, lt-leb, leb-false, leb-true}
-use Rattle.std.proofs.lemmas.List.{length-take, length-replicate, take-append-le, drop-append-le}
+use Rattle.std.proofs.Common.{◌≡◌, ◌≤◌, ◌-◌, ℕ, Bool, true, false, List, length, take, replicate, ◌++◌, refl, sym, ap, ◌∙◌, arith, min, nat_le, nat_lt, Ok, Err, if◌then◌else◌}
+use Rattle.std.proofs.lemmas.Bool.{leb-false, leb-true}
 use Rattle.ntfs_base.specs.Frames.{must, ◌>>=◌}
 use Rattle.ntfs_base.specs.Growth.{resize_of}
 use Rattle.ntfs_clone.specs.declared.fault.CloneFault.{CloneFault}
@@ -43,7 +42,7 @@ pub header-refused : (bytes front : List ℕ) (count : ℕ) (fault : CloneFault)
 unfolding clone_header
 header-refused bytes front count fault many same is =
     let here : header_in (length bytes) (fixed_part bytes) ≡ Err fault =
-        sym (header_in-most (length bytes) (fixed_part bytes)) ∙ ap (λ n. header_in n (fixed_part bytes)) (sym many) ∙ ap (header_in count) (sym same) ∙ is in
+    sym (header_in-most (length bytes) (fixed_part bytes)) ∙ ap (λ n. header_in n (fixed_part bytes)) (sym many) ∙ ap (header_in count) (sym same) ∙ is in
     rw here refl
 
 -- a header whose fields are right, and whether the bytes go up to the first command
@@ -53,7 +52,7 @@ pub header-skipped : (bytes front : List ℕ) (count : ℕ) (h : CloneHeader) (h
 unfolding clone_header
 header-skipped bytes front count h had many same is whole least said =
     let here : header_in (length bytes) (fixed_part bytes) ≡ Ok h =
-        sym (header_in-most (length bytes) (fixed_part bytes)) ∙ ap (λ n. header_in n (fixed_part bytes)) (sym many) ∙ ap (header_in count) (sym same) ∙ is in
+    sym (header_in-most (length bytes) (fixed_part bytes)) ∙ ap (λ n. header_in n (fixed_part bytes)) (sym many) ∙ ap (header_in count) (sym same) ∙ is in
     let test : nat_le h.offset (length bytes) ≡ had = same-test h.offset (length bytes) least (omega arith) ∙ sym said in
     rw (here, test) (both had)
   where

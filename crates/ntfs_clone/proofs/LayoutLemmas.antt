@@ -1,7 +1,7 @@
 -- The device with the bytes of commands in front and zeros behind.
-use Rattle.std.proofs.Common.{◌≡◌, ◌≤◌, ◌<◌, ◌+◌, ◌-◌, ◌*◌, ℕ, zero, suc, Bool, true, false, List, [], ◌∷◌, ◌++◌, length, take, drop, replicate, refl, sym, ap, ◌∙◌, subst, arith, min, nat_le, length-append, append_assoc}
-use Rattle.std.proofs.lemmas.Bool.{le-leb, lt-leb, leb-false, leb-true}
-use Rattle.std.proofs.lemmas.List.{length-take, length-drop, length-replicate, take-append-le, drop-append-le, take_all, replicate-append-replicate, drop-replicate}
+use Rattle.std.proofs.Common.{◌≡◌, ◌≤◌, ◌+◌, ◌-◌, ℕ, zero, suc, Bool, true, false, List, ◌∷◌, ◌++◌, length, take, drop, replicate, refl, sym, ap, ◌∙◌, arith, min, nat_le, length-append, append_assoc}
+use Rattle.std.proofs.lemmas.Bool.{leb-false, leb-true}
+use Rattle.std.proofs.lemmas.List.{length-take, length-replicate, take-append-le, take_all, replicate-append-replicate, drop-replicate}
 use Rattle.std.proofs.Math.Seq.{take-append-add, drop-append-add, take-append_seam}
 use Rattle.ntfs_base.specs.Bytes.{overwrite}
 use Rattle.ntfs_base.specs.Growth.{resize_of}
@@ -35,7 +35,7 @@ resize-zeros d n xs = two (nat_le d (length xs)) refl
         let e = all in
         let split : length xs + (d - length xs) ≡ d = omega arith in
         let first : take d (xs ++ replicate n 0) ≡ xs ++ replicate (min (d - length xs) n) 0 =
-            ap (λ k. take k (xs ++ replicate n 0)) (sym split) ∙ take-append-add xs (replicate n 0) (d - length xs) ∙ ap (λ ys. xs ++ ys) (take-zeros (d - length xs) n) in
+        ap (λ k. take k (xs ++ replicate n 0)) (sym split) ∙ take-append-add xs (replicate n 0) (d - length xs) ∙ ap (λ ys. xs ++ ys) (take-zeros (d - length xs) n) in
         let count : min (d - length xs) n + (d - length (xs ++ replicate n 0)) ≡ d - length xs = omega (arith, e) in
         ap (λ ys. ys ++ replicate (d - length (xs ++ replicate n 0)) 0) first ∙ append_assoc xs _ _
         ∙ ap (λ ys. xs ++ ys) (replicate-append-replicate (min (d - length xs) n) (d - length (xs ++ replicate n 0)) 0 ∙ ap (λ k. replicate k 0) count)
@@ -52,7 +52,7 @@ resize-behind d place done row content size within is =
     let long : length text ≡ min (d - place) (length row) = length-take (d - place) row in
     let front : take place (done ++ zeros) ≡ done = ap (λ k. take k (done ++ zeros)) (sym size) ∙ take-append_seam done zeros in
     let behind : drop (place + length text) (done ++ zeros) ≡ replicate (d - place - length text) 0 =
-        ap (λ k. drop (k + length text) (done ++ zeros)) (sym size) ∙ drop-append-add done zeros (length text) ∙ drop-replicate (length text) (d - place) 0 in
+    ap (λ k. drop (k + length text) (done ++ zeros)) (sym size) ∙ drop-append-add done zeros (length text) ∙ drop-replicate (length text) (d - place) 0 in
     let all = length-append done row in
     let count : d - place - length text ≡ d - length (done ++ row) = omega (arith, long, all, size) in
     let split : length done + (d - place) ≡ d = omega (arith, size) in

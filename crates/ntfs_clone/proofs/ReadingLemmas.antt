@@ -1,8 +1,8 @@
 -- How far a clone image was read, command by command.
-use Rattle.std.proofs.Common.{◌≡◌, ◌≤◌, ◌<◌, ◌+◌, ◌-◌, ◌*◌, ℕ, zero, suc, Bool, true, false, ◌&&◌, List, [], ◌∷◌, ◌++◌, length, take, drop, refl, sym, ap, ◌∙◌, subst, arith, nat_le, nat_eq, Option, Some, None, Result, Ok, Err, if◌then◌else◌, IsTrue, length-append, append_assoc}
-use Rattle.std.specs.Prelude.{option_map, IfSome}
-use Rattle.std.proofs.lemmas.Bool.{le-leb, lt-leb, leb-false, leb-true, eqb-true, eq-eqb}
-use Rattle.std.proofs.lemmas.List.{length-take, length-drop, take-append-le, drop-append-le, append-nil, nil_from_length}
+use Rattle.std.proofs.Common.{◌≡◌, ◌≤◌, ◌<◌, ◌+◌, ◌-◌, ℕ, zero, suc, Bool, true, false, ◌&&◌, List, [], ◌∷◌, ◌++◌, length, drop, refl, sym, ap, ◌∙◌, subst, arith, nat_le, nat_eq, Option, Some, None, Result, Ok, Err, length-append, append_assoc}
+use Rattle.std.specs.Prelude.{option_map}
+use Rattle.std.proofs.lemmas.Bool.{le-leb, leb-false, leb-true, eqb-true, eq-eqb}
+use Rattle.std.proofs.lemmas.List.{length-take, length-drop, take-append-le, drop-append-le, append-nil}
 use Rattle.ntfs_base.specs.Frames.{must, ◌>>=◌}
 use Rattle.ntfs_base.specs.Bytes.{number_at}
 use Rattle.ntfs_base.proofs.BytesLemmas.{number_at-append}
@@ -12,7 +12,7 @@ use Rattle.ntfs_clone.specs.declared.command.Progress.{Progress}
 use Rattle.ntfs_clone.specs.declared.fault.CloneFault.{CloneFault}
 use Rattle.ntfs_clone.specs.declared.fault.CloneFault.TheVariants.{BadClone}
 use Rattle.ntfs_clone.specs.declared.header.CloneHeader.{CloneHeader}
-use Rattle.ntfs_clone.specs.Commands.{Command, gap, cluster, command_length, command_in, next_command, commands_from, commands_length, covers, covered, may_follow, kept_if, is_empty_gap, right_commands, clone_commands, and_behind, emptied, are_all}
+use Rattle.ntfs_clone.specs.Commands.{Command, gap, cluster, command_length, command_in, next_command, commands_from, commands_length, covers, covered, may_follow, kept_if, is_empty_gap, right_commands, clone_commands, and_behind, emptied}
 use Rattle.ntfs_clone.specs.Reading.{IsBehind, HasRead, IsAllowed, found_in, found_length}
 
 -- before the first command
@@ -133,11 +133,11 @@ pub ends-so : (h : CloneHeader) (all : List ℕ) (read : List Command) (p : Prog
 unfolding clone_commands
 ends-so h all read p rest is none =
     let whole : nat_eq (commands_length read) (length all) ≡ nat_eq (length rest) 0 =
-        same-tests _ _ (λ yes_all. let e = eqb-true (commands_length read) (length all) yes_all in eq-eqb (length rest) 0 (omega (arith, e, is.bytes)))
-        (λ none_left. let e = eqb-true (length rest) 0 none_left in eq-eqb (commands_length read) (length all) (omega (arith, e, is.bytes))) in
+    same-tests _ _ (λ yes_all. let e = eqb-true (commands_length read) (length all) yes_all in eq-eqb (length rest) 0 (omega (arith, e, is.bytes)))
+    (λ none_left. let e = eqb-true (length rest) 0 none_left in eq-eqb (commands_length read) (length all) (omega (arith, e, is.bytes))) in
     let covers_all : nat_le h.clusters (covered read) ≡ nat_le p.room 1 =
-        same-tests _ _ (λ held. let e = leb-true h.clusters (covered read) held in le-leb p.room 1 (omega (arith, e, is.room)))
-        (λ held. let e = leb-true p.room 1 held in le-leb h.clusters (covered read) (omega (arith, e, is.room))) in
+    same-tests _ _ (λ held. let e = leb-true h.clusters (covered read) held in le-leb p.room 1 (omega (arith, e, is.room)))
+    (λ held. let e = leb-true p.room 1 held in le-leb h.clusters (covered read) (omega (arith, e, is.room))) in
     rw (behind-end h all read p rest is none, whole, covers_all) (both (nat_eq (length rest) 0 && nat_le p.room 1))
   where
     both : (b : Bool) → emptied (must b (BadClone (h.offset + commands_length read)) >>= (λ done. Ok read)) ≡ must b (BadClone p.place)
@@ -156,12 +156,12 @@ behind-next h all read p q rest here more left found command is same exact some 
     let x = found_in h.cluster here command in
     let size : command_length x ≡ found_length h.cluster command = found-length h.cluster here command whole in
     let next : next_command h.cluster p.room p.after_empty rest ≡ Some x =
-        ap (next_command h.cluster p.room p.after_empty) (sym same) ∙ sym exact ∙ ap (option_map (found_in h.cluster here)) some in
+    ap (next_command h.cluster p.room p.after_empty) (sym same) ∙ sym exact ∙ ap (option_map (found_in h.cluster here)) some in
     let long : length rest ≡ length here + length more = ap length (sym same) ∙ length-append here more in
     let behind = behind-step h all read p q rest x is next (omega (arith, size, long)) (found-covers h.cluster p.room p.after_empty here command allowed) room after (place ∙ ap (λ n. p.place + n) (sym size)) in
     let where_now : drop (command_length x) rest ≡ left ++ more =
-        ap (λ n. drop n rest) size ∙ ap (drop (found_length h.cluster command)) (sym same) ∙ drop-append-le (found_length h.cluster command) here more whole
-        ∙ ap (λ xs. xs ++ more) (sym passed) in
+    ap (λ n. drop n rest) size ∙ ap (drop (found_length h.cluster command)) (sym same) ∙ drop-append-le (found_length h.cluster command) here more whole
+    ∙ ap (λ xs. xs ++ more) (sym passed) in
     subst (λ (xs : List ℕ). IsBehind h all (read ++ x ∷ []) q xs) where_now behind
 
 pub read-step : (h : CloneHeader) (all : List ℕ) (p q : Progress) (rest here more left : List ℕ) (found : Option Next) (command : Next)
@@ -190,7 +190,7 @@ pub read-end : (h : CloneHeader) (all : List ℕ) (p : Progress) (rest here more
     → emptied (clone_commands h all) ≡ result
 read-end h all p rest here more found result is same enough exact none said =
     let next : next_command h.cluster p.room p.after_empty rest ≡ None =
-        ap (next_command h.cluster p.room p.after_empty) (sym same) ∙ sym exact ∙ ap (option_map (found_in h.cluster here)) none in
+    ap (next_command h.cluster p.room p.after_empty) (sym same) ∙ sym exact ∙ ap (option_map (found_in h.cluster here)) none in
     ends-so h all is.read p rest is.behind next
     ∙ ap (λ xs. must (nat_eq (length xs) 0 && nat_le p.room 1) (BadClone p.place)) (sym same)
     ∙ ap (λ b. must (b && nat_le p.room 1) (BadClone p.place)) (sym (waits-none h.cluster here more enough)) ∙ sym said

@@ -1,5 +1,5 @@
 -- Bytes that a source gives, one piece after the other.
-use Rattle.std.proofs.Common.{◌≡◌, ◌≤◌, ◌+◌, ◌-◌, ℕ, zero, suc, Bool, true, false, List, [], ◌∷◌, ◌++◌, length, take, drop, refl, sym, ap, ◌∙◌, arith, if◌then◌else◌, IsTrue, length-append, append_assoc, min, ◌<◌}
+use Rattle.std.proofs.Common.{◌≡◌, ◌≤◌, ◌+◌, ◌-◌, ℕ, Bool, true, false, List, [], ◌++◌, length, take, drop, refl, sym, ap, ◌∙◌, arith, if◌then◌else◌, IsTrue, length-append, append_assoc, min, ◌<◌}
 use Rattle.std.proofs.lemmas.List.{take-append-drop, take-append-le, drop-take, take_all, drop_all, drop-drop, length-take, length-drop}
 use Rattle.std.proofs.Math.Seq.{take-append-add}
 use borrow.Rule.Slice.PartMut.{put_mid}

@@ -1,24 +1,22 @@
 -- What stands on the target, command by command.
-use Rattle.std.proofs.Common.{◌≡◌, ◌≤◌, ◌<◌, ◌+◌, ◌-◌, ◌*◌, ◌⊎◌, inl, inr, ◌^◌, ℕ, zero, suc, Bool, true, false, List, [], ◌∷◌, ◌++◌, length, take, drop, replicate, refl, sym, ap, ◌∙◌, subst, arith, min, nat_le, Result, Ok, Err, IsTrue, length-append, append_assoc}
-use Rattle.std.specs.Prelude.{OnErr, OnOk, IsErr}
+use Rattle.std.proofs.Common.{◌≡◌, ◌≤◌, ◌+◌, ◌-◌, ◌*◌, ◌⊎◌, inl, inr, ℕ, zero, suc, Bool, true, false, List, [], ◌∷◌, ◌++◌, length, take, replicate, refl, sym, ap, ◌∙◌, subst, arith, min, nat_eq, nat_le, if◌then◌else◌, Result, Ok, Err, IsTrue, length-append, append_assoc}
+use Rattle.std.specs.Prelude.{IfErr}
 use Rattle.std.proofs.lemmas.Bool.{leb-false, leb-true}
-use Rattle.std.proofs.lemmas.List.{length-take, length-replicate, take-append-le, take_all, append-nil}
-use Rattle.std.proofs.Math.Seq.{take-append_seam}
+use Rattle.std.proofs.lemmas.List.{length-replicate, take-append-le, take_all, append-nil}
 use Rattle.ntfs_base.specs.Bytes.{overwrite}
 use Rattle.ntfs_base.specs.Frames.{IsSameDevice, IsSettled}
 use Rattle.ntfs_base.specs.Image.{ImageState}
-use Rattle.ntfs_base.specs.Growth.{resize_of}
+use Rattle.ntfs_base.specs.Growth.{SetLength, after_set_len, resize_of}
 use Rattle.ntfs_base.specs.Writes.{Write, Wrote, after_writes, content_after}
-use Rattle.ntfs_base.proofs.BytesLemmas.{take-take}
 use Rattle.ntfs_base.proofs.ContentLemmas.{told-content_after}
 use Rattle.ntfs_clone.specs.declared.fault.CloneFault.{CloneFault}
 use Rattle.ntfs_clone.specs.declared.fault.CloneFault.TheVariants as clone
-use Rattle.ntfs_clone.specs.Fault.{IsWriteFault, clone_origin}
+use Rattle.ntfs_clone.specs.Fault.{IsFileFault, IsWriteFault, clone_origin}
 use Rattle.ntfs_clone.specs.declared.header.CloneHeader.{CloneHeader}
 use Rattle.ntfs_clone.specs.declared.row.Row.{Row}
-use Rattle.ntfs_clone.specs.Commands.{Command, gap, cluster, command_content, commands_content, right_commands}
-use Rattle.ntfs_clone.specs.Restored.{laid_out}
-use Rattle.ntfs_clone.specs.Writing.{IsFront, IsHeld, IsSameFile, IsWritten, Makes}
+use Rattle.ntfs_clone.specs.Commands.{Command, gap, cluster, command_content, commands_content, covered, right_commands}
+use Rattle.ntfs_clone.specs.Restored.{IsPartOf, nothing, front, whole, backed_up, laid_out, restored, restored_before}
+use Rattle.ntfs_clone.specs.Writing.{IsFront, IsHeld, IsRestored, IsSameFile, IsWritten, Makes}
 use Rattle.ntfs_clone.proofs.LayoutLemmas.{resize-behind, resize-zeros}
 
 same-after : (ws : List Write) (old : ImageState) → IsSameFile old (after_writes ws old)
@@ -112,18 +110,18 @@ held-laid h read row content is empty =
 pub held-gap : (h : CloneHeader) (read : List Command) (row next : Row) (content : List ℕ) (count : ℕ) → IsHeld h read row content
     → row.bytes.items ≡ [] → next.bytes.items ≡ [] → next.place ≡ row.place + count * h.cluster → IsHeld h (read ++ gap count ∷ []) next content
 unfolding laid_out
-held-gap h read row next content count is empty nothing place =
+held-gap h read row next content count is empty none place =
     let all : take (length (read ++ gap count ∷ [])) (read ++ gap count ∷ []) ≡ read ++ gap count ∷ [] = take_all (length (read ++ gap count ∷ [])) (read ++ gap count ∷ []) (omega arith) in
     let zeros = content-more h.cluster read (gap count) in
     let same : commands_content h.cluster (take is.written read) ≡ commands_content h.cluster read =
-        sym (append-nil _) ∙ ap (λ xs. commands_content h.cluster (take is.written read) ++ xs) (sym empty) ∙ is.parts in
+    sym (append-nil _) ∙ ap (λ xs. commands_content h.cluster (take is.written read) ++ xs) (sym empty) ∙ is.parts in
     let before : length (commands_content h.cluster read) ≡ row.place = ap length (sym same) ∙ is.place in
     let longer : length (commands_content h.cluster read ++ replicate (count * h.cluster) 0) ≡ length (commands_content h.cluster read) + count * h.cluster = simp (length-append, length-replicate) refl in
     record {
       written = length (read ++ gap count ∷ []);
       within = omega arith;
       place = ap (λ xs. length (commands_content h.cluster xs)) all ∙ ap length zeros ∙ longer ∙ ap (λ n. n + count * h.cluster) before ∙ sym place;
-      parts = ap (λ xs. commands_content h.cluster xs ++ next.bytes.items) all ∙ ap (λ xs. commands_content h.cluster (read ++ gap count ∷ []) ++ xs) nothing ∙ append-nil _;
+      parts = ap (λ xs. commands_content h.cluster xs ++ next.bytes.items) all ∙ ap (λ xs. commands_content h.cluster (read ++ gap count ∷ []) ++ xs) none ∙ append-nil _;
       laid = held-laid h read row content is empty ∙ sym (resize-zeros h.device (count * h.cluster) (commands_content h.cluster read))
           ∙ ap (resize_of h.device) (sym zeros) ∙ ap (λ xs. resize_of h.device (commands_content h.cluster xs)) (sym all);
     }
@@ -193,3 +191,103 @@ makes-wrote {T = T} w text old new (Err e) is told same = record {
   whole = tt;
   part = elim (wrote-one {T = T} w old new e is told) [ inl left ↦ inl left | inr made ↦ inr (made ∙ ap (λ xs. overwrite w.place xs old.content) same) ];
 }
+
+-- ---- a whole restore
+
+same-length : (len : ℕ) (old : ImageState) → IsSameDevice old (after_set_len len old)
+unfolding after_set_len
+same-length len old = record { told = refl; bears = refl; over = refl }
+
+pub length-device : {T E : Type 0} (len : ℕ) (old new : ImageState) (result : Result T E) → SetLength len old result new → IsSameDevice old new
+length-device len old new (Ok x) is = subst (IsSameDevice old) (sym is.whole) (same-length len old)
+length-device len old new (Err e) is =
+    elim is.part [ inl same ↦ subst (IsSameDevice old) (sym same) (record { told = refl; bears = refl; over = refl }) | inr asked ↦ subst (IsSameDevice old) (sym asked) (same-length len old) ]
+
+told-length : (len : ℕ) (old : ImageState) → IsTrue old.is_told → (after_set_len len old).content ≡ resize_of len old.content
+unfolding after_set_len
+told-length len old told = both old.is_told told
+  where
+    both : (b : Bool) → IsTrue b → (if b then resize_of len old.content else old.content) ≡ resize_of len old.content
+    both true is = refl
+    both false is = absurd cc
+
+-- an empty file that gets the device's length
+pub makes-length : {T E : Type 0} (h : CloneHeader) (old new : ImageState) (result : Result T E) → SetLength h.device old result new → IsTrue old.is_told → old.content ≡ []
+    → Makes (laid_out h []) [] result new.content
+unfolding laid_out
+makes-length h old new (Ok x) is told empty = record { whole = ap (λ (s : ImageState). s.content) is.whole ∙ told-length h.device old told ∙ ap (resize_of h.device) empty; part = tt }
+makes-length h old new (Err e) is told empty = record {
+  whole = tt;
+  part = elim is.part [
+    | inl same ↦ inl (ap (λ (s : ImageState). s.content) same ∙ empty)
+    | inr asked ↦ inr (ap (λ (s : ImageState). s.content) asked ∙ told-length h.device old told ∙ ap (resize_of h.device) empty)
+  ];
+}
+
+-- a fault before the first command
+pub part-laid : (h : CloneHeader) (bytes content : List ℕ) → (content ≡ []) ⊎ (content ≡ laid_out h []) → IsPartOf h bytes content
+part-laid h bytes content (inl none) = nothing none
+part-laid h bytes content (inr laid) = front 0 laid
+
+-- a fault that isn't settled
+pub restored-cut : (h : CloneHeader) (bytes content : List ℕ) (fault : CloneFault) → (IsSettled (clone_origin fault) → ⊥) → IsPartOf h bytes content → IsRestored h bytes (Err fault) content
+restored-cut h bytes content (clone.BadClone place) cut is = absurd (cut tt)
+restored-cut h bytes content (clone.Damaged rule number) cut is = is
+restored-cut h bytes content clone.ReadFault cut is = is
+restored-cut h bytes content clone.WriteFault cut is = is
+restored-cut h bytes content clone.NoMemory cut is = is
+
+part-front : (h : CloneHeader) (bytes content : List ℕ) → IsFront h (right_commands h bytes) content → IsPartOf h bytes content
+part-front h bytes content is = front is.written is.laid
+
+-- the commands were not all written
+pub restored-written : (h : CloneHeader) (bytes content : List ℕ) (fault : CloneFault) → IsWritten h bytes (Err fault) content → IsRestored h bytes (Err fault) content
+unfolding restored_before
+restored-written h bytes content (clone.BadClone place) is = is
+restored-written h bytes content (clone.Damaged rule number) is = part-front h bytes content is
+restored-written h bytes content clone.ReadFault is = part-front h bytes content is
+restored-written h bytes content clone.WriteFault is = part-front h bytes content is
+restored-written h bytes content clone.NoMemory is = part-front h bytes content is
+
+-- they were, and end behind the tail
+pub restored-tail : (h : CloneHeader) (bytes content : List ℕ) → content ≡ laid_out h (right_commands h bytes) → false ≡ nat_eq (covered (right_commands h bytes)) h.clusters
+    → content ≡ restored h (right_commands h bytes)
+unfolding restored
+restored-tail h bytes content is tail = is ∙ sym (rw (sym tail) refl)
+
+-- they were, and end before it
+pub restored-backup : (h : CloneHeader) (bytes old new : List ℕ) → old ≡ laid_out h (right_commands h bytes) → true ≡ nat_eq (covered (right_commands h bytes)) h.clusters
+    → new ≡ backed_up h old → new ≡ restored h (right_commands h bytes)
+unfolding restored
+restored-backup h bytes old new is tail made = made ∙ ap (backed_up h) is ∙ sym (rw (sym tail) refl)
+
+pub part-backup : (h : CloneHeader) (bytes old new : List ℕ) → old ≡ laid_out h (right_commands h bytes) → true ≡ nat_eq (covered (right_commands h bytes)) h.clusters
+    → (new ≡ old) ⊎ (new ≡ backed_up h old) → IsPartOf h bytes new
+part-backup h bytes old new is tail (inl left) = front (length (right_commands h bytes)) (left ∙ is ∙ ap (laid_out h) (sym (take_all _ (right_commands h bytes) (omega arith))))
+part-backup h bytes old new is tail (inr made) = whole (restored-backup h bytes old new is tail made)
+
+pub file-unsettled : (fault : CloneFault) → IsFileFault fault → IsSettled (clone_origin fault) → ⊥
+file-unsettled (clone.BadClone place) is settled = is
+file-unsettled (clone.Damaged rule number) is settled = is
+file-unsettled clone.ReadFault is settled = settled
+file-unsettled clone.WriteFault is settled = settled
+file-unsettled clone.NoMemory is settled = is
+
+-- the answer with the backup
+pub restored-last : (h : CloneHeader) (bytes old new : List ℕ) (result : Result (Unit {0}) CloneFault) → old ≡ laid_out h (right_commands h bytes) → true ≡ nat_eq (covered (right_commands h bytes)) h.clusters
+    → Makes (backed_up h old) old result new → IfErr result IsFileFault → IsRestored h bytes result new
+restored-last h bytes old new (Ok x) is tail makes fails = restored-backup h bytes old new is tail makes.whole
+restored-last h bytes old new (Err fault) is tail makes fails = restored-cut h bytes new fault (file-unsettled fault fails) (part-backup h bytes old new is tail makes.part)
+
+size-after : (len : ℕ) (old : ImageState) → (after_set_len len old).size ≡ len
+unfolding after_set_len
+size-after len old = refl
+
+-- how long a file is after its length was to be set
+pub length-size : {E : Type 0} (len : ℕ) (old new : ImageState) (done : Unit {0}) → SetLength {E = E} len old (Ok done) new → new.size ≡ len
+length-size len old new done is = ap (λ (s : ImageState). s.size) is.whole ∙ size-after len old
+
+pub length-sizes : {T E : Type 0} (len : ℕ) (old new : ImageState) (result : Result T E) → SetLength len old result new → old.size ≡ 0 → (new.size ≡ 0) ⊎ (new.size ≡ len)
+length-sizes len old new (Ok x) is empty = inr (ap (λ (s : ImageState). s.size) is.whole ∙ size-after len old)
+length-sizes len old new (Err e) is empty =
+    elim is.part [ inl same ↦ inl (ap (λ (s : ImageState). s.size) same ∙ empty) | inr asked ↦ inr (ap (λ (s : ImageState). s.size) asked ∙ size-after len old) ]

@@ -1,5 +1,5 @@
 -- How far a clone image was read. The words are ours.
-use Rattle.std.specs.Prelude.{◌≡◌, ◌≤◌, ◌+◌, ◌-◌, ◌*◌, ◌<◌, ◌^◌, ℕ, Bool, true, false, List, [], ◌++◌, length, take, drop}
+use Rattle.std.specs.Prelude.{◌≡◌, ◌≤◌, ◌+◌, ◌-◌, ◌*◌, ◌<◌, ◌^◌, ℕ, Bool, true, false, List, ◌++◌, length, take, drop}
 use Rattle.ntfs_base.specs.Source.{SourceState}
 use Rattle.ntfs_clone.specs.declared.command.Next.{Next}
 use Rattle.ntfs_clone.specs.declared.command.Next.TheVariants as next

@@ -13,7 +13,7 @@ use Rattle.ntfs_clone.specs.declared.row.Row.{Row}
 use Rattle.ntfs_clone.specs.Commands.{Command, commands_content, covered, right_commands}
 use Rattle.ntfs_clone.specs.Fault.{clone_origin}
 use Rattle.ntfs_clone.specs.Reading.{HasRead}
-use Rattle.ntfs_clone.specs.Restored.{laid_out}
+use Rattle.ntfs_clone.specs.Restored.{IsPartOf, laid_out, restored, restored_before}
 
 -- of the commands that were read, the first ones were written, and the bytes of the others wait in the row
 pub record IsHeld (h : CloneHeader) (read : List Command) (row : Row) (content : List ℕ) : Type 0 where
@@ -76,3 +76,9 @@ pub record OnlyChanges {F T : Type 0} (f : image.Ghosts F) (before after : F) (r
   pub counts : HaveNotFallen (f.faults before) (f.faults after)
   pub cause : IfErr result (λ fault. Because (clone_origin fault) (Rose (f.faults before).reads (f.faults after).reads)
       (Rose (f.faults before).writes (f.faults after).writes) (Unit {0}))
+
+-- what stands on a target that was empty
+abbrev pub IsRestored : CloneHeader → List ℕ → Result (Unit {0}) CloneFault → List ℕ → Type 0
+IsRestored h bytes (Ok done) content = content ≡ restored h (right_commands h bytes)
+IsRestored h bytes (Err (clone.BadClone place)) content = content ≡ restored_before h bytes
+IsRestored h bytes (Err other) content = IsPartOf h bytes content

@@ -42,7 +42,11 @@ fn is_of(header: &CloneHeader, geometry: &Geometry) -> bool
 }
 
 /// Copies the first sector of a file of this length to the one behind all sectors.
-fn copy_sector<F: HostFile>(geometry: &Geometry, device: u64, target: &mut F) -> Result<(), CloneFault>
+fn copy_sector<F: HostFile>(
+    geometry: &Geometry,
+    device: u64,
+    target: &mut F,
+) -> Result<(), CloneFault>
     requires good { IsGood geometry.now }
     requires inside { (geometry.now.sectors + 1) * geometry.now.sector ≤ device }
     requires size { (F.seen target.old).size ≡ device }

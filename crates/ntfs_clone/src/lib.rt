@@ -15,3 +15,4 @@ mod writing;
 pub use fault::CloneFault;
 pub use header::{CloneHeader, read_header};
 pub use reading::read_commands;
+pub use restoring::restore_to;

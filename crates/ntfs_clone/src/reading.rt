@@ -66,7 +66,11 @@ pub(crate) fn end(input: &Input, progress: &Progress) -> Result<(), CloneFault>
 /// The commands are read through a buffer of half a mebibyte. An image is refused by the place of the first command
 /// that is wrong or cut off, or of the first byte behind the end: its commands have to cover all clusters, or one more,
 /// the tail, and no two gaps of 0 may follow each other.
-pub fn read_commands<I: Source>(alloc: Global, header: &CloneHeader, source: &mut I) -> Result<(), CloneFault>
+pub fn read_commands<I: Source>(
+    alloc: Global,
+    header: &CloneHeader,
+    source: &mut I,
+) -> Result<(), CloneFault>
     requires { IsHeader header.now }
     ensures gives { IsTrue (I.seen source.old).is_told → Gives clone_origin (λ done. done)
         (emptied (clone_commands header.now (to_come (I.seen source.old)))) result }

@@ -1,15 +1,16 @@
 //! A clone image that is restored to a file.
 
 ghost use Rattle.std.specs.Prelude.{◌≡◌, ◌≤◌, ◌<◌, ◌+◌, ◌-◌, ◌*◌, ◌⊎◌, ◌++◌, ◌∷◌, ◌==◌, [], List, length, take, true, IfOk, IfErr, IsOk, OnOk, OnErr, IsTrue};
-ghost use Rattle.ntfs_base.specs.Frames.{Gives, OnlyWrites};
+ghost use Rattle.ntfs_base.specs.Frames.{Gives, IsSameDevice, OnlyWrites};
 ghost use Rattle.ntfs_clone.specs.Commands.{Command, clone_commands, covers, emptied, right_commands};
 ghost use Rattle.ntfs_clone.specs.Fault.{IsWriteFault, clone_origin};
 ghost use Rattle.ntfs_clone.specs.Header.{IsHeader};
 ghost use Rattle.ntfs_clone.specs.Reading.{IsAllowed, found_in, found_length};
 ghost use Rattle.ntfs_clone.specs.Restored.{laid_out};
 ghost use Rattle.ntfs_clone.specs.Taking.{HasGiven, to_come};
-ghost use Rattle.ntfs_clone.specs.Writing.{IsFront, IsHeld, IsSameFile, IsWritten, Reaches, Restores};
+ghost use Rattle.ntfs_clone.specs.Writing.{IsFront, IsHeld, IsRestored, IsSameFile, IsWritten, Makes, Reaches, Restores};
 
+use crate::backup::back_up;
 use crate::command::{Next, Progress};
 use crate::fault::CloneFault;
 use crate::header::CloneHeader;
@@ -80,11 +81,68 @@ fn write_commands<I: Source, F: HostFile>(
     let mut row = new_row(alloc)?;
     let mut progress = Progress::new(header);
     'commands: while let Some(command) = next(&mut input, source, cluster, &progress)? {
-        put(header, &command, input.waiting(), &progress, &mut row, target)?;
+        put(
+            header,
+            &command,
+            input.waiting(),
+            &progress,
+            &mut row,
+            target,
+        )?;
         progress = progress.behind(&command, cluster);
         input.pass(command.length(cluster));
     }
     flush(header, &mut row, target)?;
     end(&input, &progress)?;
     Ok(progress.room == 1)
+}
+
+/// Gives an empty file the device's length.
+fn lay_out<F: HostFile>(header: &CloneHeader, target: &mut F) -> Result<(), CloneFault>
+    requires { (F.seen target.old).size ≡ 0 }
+    ensures size { OnOk result ((F.seen target.new).size ≡ header.now.device) }
+    ensures sizes { ((F.seen target.new).size ≡ 0) ⊎ ((F.seen target.new).size ≡ header.now.device) }
+    ensures makes { IsTrue (F.seen target.old).is_told
+        → Makes (laid_out header.now []) [] result (F.seen target.new).content }
+    ensures same { IsSameDevice (F.seen target.old) (F.seen target.new) }
+    ensures fails { IfErr result IsWriteFault }
+    ensures writes { OnlyWrites F.Image clone_origin target.old target.new result }
+{
+    target.set_len(header.device)?;
+    Ok(())
+}
+
+/// Restores a clone image to an empty file. Its header was read from the source before.
+///
+/// The file gets the device's length, the clusters that the image has are written in rows, and the gaps stay zeros. What
+/// of the tail passes the device's end is cut off. Where the commands end before the tail, the backup boot sector is
+/// made anew, if the file begins with the boot sector of the header's volume. Of an image that is wrong, the commands
+/// before that place stand. After a fault nothing stands, or a front of the commands, or the whole.
+///
+/// It reads the source once, through a buffer of half a mebibyte; a row has as much.
+pub fn restore_to<I: Source, F: HostFile>(
+    alloc: Global,
+    header: &CloneHeader,
+    source: &mut I,
+    target: &mut F,
+) -> Result<(), CloneFault>
+    requires header { IsHeader header.now }
+    requires empty { (F.seen target.old).size ≡ 0 }
+    ensures gives { IsTrue (I.seen source.old).is_told → Gives clone_origin (λ done. done)
+        (emptied (clone_commands header.now (to_come (I.seen source.old)))) result }
+    ensures end { OnOk result (IsTrue (I.seen source.old).is_told → to_come (I.seen source.new) ≡ []) }
+    ensures restored { IsTrue (I.seen source.old).is_told → IsTrue (F.seen target.old).is_told
+        → IsRestored header.now (to_come (I.seen source.old)) result (F.seen target.new).content }
+    ensures size { OnOk result ((F.seen target.new).size ≡ header.now.device) }
+    ensures sizes { ((F.seen target.new).size ≡ 0) ⊎ ((F.seen target.new).size ≡ header.now.device) }
+    ensures kept { HasGiven (I.seen source.old) (I.seen source.new) }
+    ensures same { IsSameDevice (F.seen target.old) (F.seen target.new) }
+    ensures restores { Restores I.Source F.Image source.old source.new target.old target.new result }
+{
+    lay_out(header, target)?;
+    if write_commands(alloc, header, source, target)? {
+        back_up(header, target)
+    } else {
+        Ok(())
+    }
 }

@@ -58,7 +58,12 @@ pub(crate) fn skip<I: Source>(source: &mut I, count: u64) -> Result<bool, CloneF
 
 /// Moves the bytes of a part to the front of the buffer, fills it behind them from the source and answers how many
 /// bytes stand there.
-pub(crate) fn refill<I: Source>(source: &mut I, buffer: &mut [u8], start: usize, end: usize) -> Result<usize, CloneFault>
+pub(crate) fn refill<I: Source>(
+    source: &mut I,
+    buffer: &mut [u8],
+    start: usize,
+    end: usize,
+) -> Result<usize, CloneFault>
     requires order { start ≤ end }
     requires within { end ≤ length buffer.old }
     ensures len { length buffer.new ≡ length buffer.old }

@@ -31,7 +31,12 @@ pub(crate) fn new_row(alloc: Global) -> Result<Row, AllocError>
 }
 
 /// Writes bytes at a place on a device of this length; what passes its end is cut off.
-pub(crate) fn write_within<F: HostFile>(target: &mut F, device: u64, place: u64, bytes: &[u8]) -> Result<(), CloneFault>
+pub(crate) fn write_within<F: HostFile>(
+    target: &mut F,
+    device: u64,
+    place: u64,
+    bytes: &[u8],
+) -> Result<(), CloneFault>
     requires within { place ≤ device }
     requires size { (F.seen target.old).size ≡ device }
     ensures wrote { Wrote (record { place = place; bytes = take (device - place) bytes.now } ∷ [])
@@ -46,7 +51,11 @@ pub(crate) fn write_within<F: HostFile>(target: &mut F, device: u64, place: u64,
 }
 
 /// Writes the row that waits, and goes on behind it.
-pub(crate) fn flush<F: HostFile>(header: &CloneHeader, row: &mut Row, target: &mut F) -> Result<(), CloneFault>
+pub(crate) fn flush<F: HostFile>(
+    header: &CloneHeader,
+    row: &mut Row,
+    target: &mut F,
+) -> Result<(), CloneFault>
     requires begins { Begins header.now row.old }
     requires size { (F.seen target.old).size ≡ header.now.device }
     requires fits { row.old.place + length row.old.bytes.items < 2 ^ 64 }
@@ -72,7 +81,11 @@ pub(crate) fn flush<F: HostFile>(header: &CloneHeader, row: &mut Row, target: &m
 }
 
 /// Writes the row where it has no room for a further cluster.
-fn make_room<F: HostFile>(header: &CloneHeader, row: &mut Row, target: &mut F) -> Result<(), CloneFault>
+fn make_room<F: HostFile>(
+    header: &CloneHeader,
+    row: &mut Row,
+    target: &mut F,
+) -> Result<(), CloneFault>
     requires begins { Begins header.now row.old }
     requires size { (F.seen target.old).size ≡ header.now.device }
     requires cluster { header.now.cluster ≤ 65536 }

@@ -1,5 +1,5 @@
-use Rattle.std.proofs.Common.{◌≡◌, ◌≤◌, ◌+◌, ◌-◌, ◌*◌, List, ℕ, length, take, drop, refl, sym, ap, ◌∙◌, subst, arith}
-use Rattle.std.proofs.lemmas.List.{length-take, length-replicate, take_all}
+use Rattle.std.proofs.Common.{◌≡◌, ◌≤◌, ◌+◌, ◌-◌, ◌*◌, List, ℕ, length, take, refl, sym, ap, ◌∙◌, subst, arith}
+use Rattle.std.proofs.lemmas.List.{length-take, take_all}
 use Rattle.std.specs.Prelude.{slice_range}
 use Rattle.ntfs_base.specs.Bytes.{overwrite}
 use Rattle.ntfs_base.specs.Image.{ImageState}
@@ -27,7 +27,7 @@ returns-clause-makes g c told =
     let read : c.read_at.new.into ≡ text = read-front old.content c.read_at.new.into _ k.sector (c.in_ok-read_at.ensures.bytes told) (sym c.read_at.auto.into ∙ size) in
     let fits : k.sector ≤ c.args.device - k.sectors * c.from.result = let e = ap (λ x. k.sectors * x) c.from.ensures in omega (arith, e, c.requires.inside) in
     let m : Makes (overwrite (k.sectors * c.from.result) text mid.content) mid.content c.write_within.result new.content =
-        makes-wrote _ text mid new c.write_within.result c.write_within.ensures.wrote (ap (λ (s : ImageState). s.is_told) seen ∙ told) (take_all (c.args.device - k.sectors * c.from.result) c.read_at.new.into (omega (arith, size, fits)) ∙ read) in
+    makes-wrote _ text mid new c.write_within.result c.write_within.ensures.wrote (ap (λ (s : ImageState). s.is_told) seen ∙ told) (take_all (c.args.device - k.sectors * c.from.result) c.read_at.new.into (omega (arith, size, fits)) ∙ read) in
     let n = subst (λ (s : ImageState). Makes (overwrite (k.sectors * c.from.result) text s.content) s.content c.write_within.result new.content) seen m in
     subst (λ (x : ℕ). Makes (overwrite (k.sectors * x) text old.content) old.content c.write_within.result new.content) c.from.ensures n
 

@@ -1,4 +1,4 @@
-use Rattle.std.proofs.Common.{◌≡◌, ◌∷◌, ℕ, true, nat_eq, refl, sym, ap, ◌∙◌}
+use Rattle.std.proofs.Common.{◌≡◌, ◌∷◌, true, nat_eq, refl, sym, ap, ◌∙◌}
 use Rattle.ntfs_clone.specs.Commands.{next_command, command_in}
 use Rattle.ntfs_clone.proofs.command.command_of.Goals as goal
 

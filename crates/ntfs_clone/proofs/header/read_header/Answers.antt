@@ -1,8 +1,7 @@
-use Rattle.std.proofs.Common.{◌≡◌, ◌≤◌, ◌-◌, IsTrue, refl, sym, ap, ◌∙◌, arith, min, length, ℕ, Bool, true, false, List, Err, Ok, nat_le, if◌then◌else◌}
+use Rattle.std.proofs.Common.{◌≡◌, ◌≤◌, ◌-◌, sym, ap, ◌∙◌, arith, min, length, ℕ, Bool, true, false, nat_le}
 use Rattle.std.proofs.lemmas.Result.{err_from_is_err_and}
-use Rattle.ntfs_clone.specs.Header.{header_in, fixed_part, clone_header}
-use Rattle.ntfs_clone.specs.Taking.{HasGiven, to_come}
-use Rattle.ntfs_clone.specs.declared.fault.CloneFault.TheVariants.{BadClone}
+use Rattle.ntfs_clone.specs.Header.{fixed_part}
+use Rattle.ntfs_clone.specs.Taking.{to_come}
 use Rattle.ntfs_clone.proofs.TakingLemmas.{given-then, fill-count, length-to_come, told-after}
 use Rattle.ntfs_clone.proofs.HeaderLemmas.{fixed-filled, header-refused, header-skipped}
 use Rattle.ntfs_clone.proofs.header.read_header.Goals as goal

@@ -1,8 +1,6 @@
-use Rattle.std.proofs.Common.{◌≡◌, ◌≤◌, ◌++◌, List, [], ℕ, length, refl, sym, ap, ◌∙◌, subst, arith, None, Option, drop}
+use Rattle.std.proofs.Common.{◌≤◌, ◌++◌, List, [], ℕ, length, sym, ap, ◌∙◌, subst, arith, Option, drop}
 use Rattle.std.specs.Prelude.{IfSome}
-use Rattle.ntfs_base.specs.Frames.{Gives}
 use Rattle.ntfs_base.proofs.FramesLemmas.{gives_same}
-use Rattle.ntfs_clone.specs.Commands.{clone_commands, emptied}
 use Rattle.ntfs_clone.specs.Fault.{clone_origin}
 use Rattle.ntfs_clone.specs.Reading.{IsAllowed, IsBehind, found_length, waiting}
 use Rattle.ntfs_clone.specs.declared.command.Next.{Next}

@@ -1,8 +1,8 @@
-use Rattle.std.proofs.Common.{◌≡◌, ◌≤◌, ◌<◌, ◌+◌, ◌*◌, ◌++◌, ◌∷◌, List, [], ℕ, length, drop, refl, sym, ap, ◌∙◌, subst, arith, nat_eq, None, Option, Ok, Err, Result}
+use Rattle.std.proofs.Common.{◌≡◌, ◌≤◌, ◌*◌, ◌++◌, ◌∷◌, List, [], ℕ, length, drop, sym, ap, ◌∙◌, subst, arith, nat_eq, Option, Ok, Err}
 use Rattle.std.specs.Prelude.{IfSome}
 use Rattle.std.proofs.lemmas.Result.{err_from_is_err_and}
 use Rattle.ntfs_base.specs.Frames.{IsSettled}
-use Rattle.ntfs_clone.specs.Commands.{Command, covered, right_commands}
+use Rattle.ntfs_clone.specs.Commands.{covered, right_commands}
 use Rattle.ntfs_clone.specs.Fault.{clone_origin}
 use Rattle.ntfs_clone.specs.Reading.{IsAllowed, IsBehind, found_in, found_length, waiting}
 use Rattle.ntfs_clone.specs.Restored.{laid_out}
@@ -135,7 +135,7 @@ returns-in_err-end-clause-written g c told told_target =
     let tells = c.commands.invariant.same.same.told ∙ told_target in
     let read = before.reading.read in
     let whole : right_commands h all ≡ read =
-        read-all h all read c.commands.progress _ (waiting c.next.new.input) (to_come (g.I.Source.seen c.next.new.source)) c.in_ok-command.field-0 before.reading.behind (found.unread now) (found.exact now) c.in_default.is in
+    read-all h all read c.commands.progress _ (waiting c.next.new.input) (to_come (g.I.Source.seen c.next.new.source)) c.in_ok-command.field-0 before.reading.behind (found.unread now) (found.exact now) c.in_default.is in
     rw (p.1, p.2) (written-whole h all _ _
     (held-laid h read c.flush.new.row _ (c.in_ok-flush.ensures.held read tells (before.held tells)) c.in_ok-flush.ensures.empty ∙ ap (laid_out h) (sym whole)))
 
@@ -160,7 +160,7 @@ returns-clause-written g c told told_target =
     let tells = c.commands.invariant.same.same.told ∙ told_target in
     let read = before.reading.read in
     let whole : right_commands h all ≡ read =
-        read-all h all read c.commands.progress _ (waiting c.next.new.input) (to_come (g.I.Source.seen c.next.new.source)) c.in_ok-command.field-0 before.reading.behind (found.unread now) (found.exact now) c.in_default.is in (
+    read-all h all read c.commands.progress _ (waiting c.next.new.input) (to_come (g.I.Source.seen c.next.new.source)) c.in_ok-command.field-0 before.reading.behind (found.unread now) (found.exact now) c.in_default.is in (
       held-laid h read c.flush.new.row _ (c.in_ok-flush.ensures.held read tells (before.held tells)) c.in_ok-flush.ensures.empty ∙ ap (laid_out h) (sym whole),
       before-tail h all read c.commands.progress _ before.reading.behind ∙ ap (λ xs. nat_eq (covered xs) h.clusters) (sym whole),
     )

@@ -1,4 +1,4 @@
-use Rattle.std.proofs.Common.{◌≡◌, ◌≤◌, ◌+◌, IsTrue, refl, sym, ap, ◌∙◌, arith, subst, length, List, ℕ, drop, take}
+use Rattle.std.proofs.Common.{◌≡◌, ◌≤◌, IsTrue, sym, ap, ◌∙◌, arith, subst, length, ℕ, drop, take}
 use Rattle.ntfs_base.specs.Source.{SourceState, after_take, GivesNext}
 use Rattle.ntfs_clone.proofs.TakingLemmas.{after_take-more, after_take-given, fill-step, length-behind}
 use Rattle.ntfs_clone.proofs.taking.fill.Goals as goal

@@ -1,8 +1,6 @@
-use Rattle.std.proofs.Common.{◌≡◌, ◌≤◌, ◌<◌, ◌+◌, ◌-◌, length, take, drop, sym, ap, ◌∙◌, arith, refl}
-use Rattle.std.proofs.lemmas.List.{length-take, length-drop, length-take-le}
-use Rattle.ntfs_base.specs.Bytes.{overwrite, piece_at}
+use Rattle.std.proofs.Common.{◌≡◌, ◌-◌, length, take, drop, arith}
 use Rattle.ntfs_clone.specs.Taking.{to_come}
-use Rattle.ntfs_clone.proofs.TakingLemmas.{fill-count, to_come-after, refill-bytes, refill-end, moved-front}
+use Rattle.ntfs_clone.proofs.TakingLemmas.{to_come-after, refill-bytes, refill-end, moved-front}
 use Rattle.ntfs_clone.proofs.taking.refill.Goals as goal
 
 pub returns-clause-bytes : goal.returns-clause-bytes

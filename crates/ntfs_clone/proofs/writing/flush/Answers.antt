@@ -1,9 +1,7 @@
-use Rattle.std.proofs.Common.{◌≡◌, ◌≤◌, ◌<◌, ◌+◌, length, refl, sym, ap, ◌∙◌, arith, take, ◌-◌, Err, Ok, subst, ◌⊎◌, List, ℕ}
+use Rattle.std.proofs.Common.{◌≡◌, ◌<◌, ◌+◌, length, ap, ◌∙◌, arith, take, ◌-◌, subst, ◌⊎◌, List, ℕ}
 use Rattle.std.proofs.lemmas.Result.{err_from_is_err_and}
 use Rattle.ntfs_base.specs.Bytes.{overwrite}
-use Rattle.ntfs_base.specs.Writes.{Write, Wrote}
 use Rattle.ntfs_base.proofs.ContentLemmas.{told-content_after}
-use Rattle.ntfs_clone.specs.Writing.{IsFront, IsHeld, IsSameFile}
 use Rattle.ntfs_clone.proofs.WritingLemmas.{same-wrote, wrote-one, row-written, row-failed}
 use Rattle.ntfs_clone.proofs.writing.flush.Goals as goal
 
@@ -38,6 +36,6 @@ returns-clause-held g c read told held =
     let old = g.F.Image.seen c.args.target.now in
     let new = g.F.Image.seen c.write_within.new.target in
     let made : new.content ≡ overwrite row.place (take (d - row.place) row.bytes.items) old.content =
-        told-content_after _ old new c.in_ok-write_within.ensures.wrote.whole told ∙ ap (λ xs. overwrite row.place (take (d - row.place) xs) old.content) value in
+    told-content_after _ old new c.in_ok-write_within.ensures.wrote.whole told ∙ ap (λ xs. overwrite row.place (take (d - row.place) xs) old.content) value in
     let long : c.len-2.result ≡ length row.bytes.items = omega (arith, size, c.deref.ensures.len, c.len-2.ensures) in
     row-written c.args.header.now read row _ old.content new.content held (c.requires.begins some) made c.clear.ensures.items (ap (λ n. row.place + n) long)

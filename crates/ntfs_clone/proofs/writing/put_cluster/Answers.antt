@@ -1,4 +1,4 @@
-use Rattle.std.proofs.Common.{◌≡◌, refl, ap}
+use Rattle.std.proofs.Common.{refl}
 use Rattle.std.proofs.lemmas.Result.{err_from_is_err_and}
 use Rattle.ntfs_clone.proofs.WritingLemmas.{held-cluster, held-front}
 use Rattle.ntfs_clone.proofs.writing.put_cluster.Goals as goal

@@ -1,4 +1,4 @@
-use Rattle.std.proofs.Common.{◌≡◌, ◌+◌, ◌*◌, ap}
+use Rattle.std.proofs.Common.{◌+◌, ◌*◌, ap}
 use Rattle.ntfs_clone.proofs.WritingLemmas.{held-gap}
 use Rattle.ntfs_clone.proofs.writing.put_gap.Goals as goal
 

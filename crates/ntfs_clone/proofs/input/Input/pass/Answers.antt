@@ -1,4 +1,3 @@
-use Rattle.std.proofs.Common.{◌≤◌, ◌-◌, length, arith}
 use Rattle.std.proofs.lemmas.List.{length-take, length-drop}
 use Rattle.ntfs_clone.proofs.TakingLemmas.{waiting-behind}
 use Rattle.ntfs_clone.proofs.input.Input.pass.Goals as goal
