@@ -16,3 +16,6 @@ pub use fault::CloneFault;
 pub use header::{CloneHeader, read_header};
 pub use reading::read_commands;
 pub use restoring::restore_to;
+
+#[cfg(test)]
+mod tests;
