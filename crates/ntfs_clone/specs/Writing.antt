@@ -1,4 +1,5 @@
 -- What stands on a target while a clone image is restored to it. The words are ours.
+use Rattle.std.proofs.Common.{inl, inr}
 use Rattle.std.specs.Prelude.{◌≡◌, ◌≤◌, ◌<◌, ◌+◌, ◌*◌, ◌⊎◌, ◌==◌, ℕ, Bool, List, ◌++◌, length, take, IsTrue, IfErr, OnErr, OnOk, Result, Ok, Err}
 use Rattle.ntfs_base.specs.Causes.{HaveNotFallen, Rose}
 use Rattle.ntfs_base.specs.Frames.{Because, IsSameDevice}
@@ -82,3 +83,9 @@ abbrev pub IsRestored : CloneHeader → List ℕ → Result (Unit {0}) CloneFaul
 IsRestored h bytes (Ok done) content = content ≡ restored h (right_commands h bytes)
 IsRestored h bytes (Err (clone.BadClone place)) content = content ≡ restored_before h bytes
 IsRestored h bytes (Err other) content = IsPartOf h bytes content
+
+-- of a target that may be missing, where there is one: the two come apart as the variants of an option do
+abbrev pub OnTarget : {A B C : Type 0} → A ⊎ (B ⊎ C) → (B → Type 0) → Type 0
+OnTarget (inl missing) is = Unit {0}
+OnTarget (inr (inl target)) is = is target
+OnTarget (inr (inr nothing)) is = Unit {0}

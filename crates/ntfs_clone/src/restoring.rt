@@ -1,21 +1,21 @@
 //! A clone image that is restored to a file.
 
-ghost use Rattle.std.specs.Prelude.{◌≡◌, ◌≤◌, ◌<◌, ◌+◌, ◌-◌, ◌*◌, ◌⊎◌, ◌++◌, ◌∷◌, ◌==◌, [], List, length, take, true, IfOk, IfErr, IsOk, OnOk, OnErr, IsTrue};
-ghost use Rattle.ntfs_base.specs.Frames.{Gives, IsSameDevice, OnlyWrites};
+ghost use Rattle.std.specs.Prelude.{◌≡◌, ◌≤◌, ◌<◌, ◌+◌, ◌-◌, ◌*◌, ◌⊎◌, ◌++◌, ◌∷◌, ◌==◌, [], List, length, take, true, None, IfOk, IfErr, IsOk, OnOk, OnErr, IfSome, IsTrue};
+ghost use Rattle.ntfs_base.specs.Frames.{Gives, IsSameDevice, OnlyTakes, OnlyWrites};
 ghost use Rattle.ntfs_clone.specs.Commands.{Command, clone_commands, covers, emptied, right_commands};
-ghost use Rattle.ntfs_clone.specs.Fault.{IsWriteFault, clone_origin};
+ghost use Rattle.ntfs_clone.specs.Fault.{IsReadOnlyFault, IsWriteFault, clone_origin};
 ghost use Rattle.ntfs_clone.specs.Header.{IsHeader};
 ghost use Rattle.ntfs_clone.specs.Reading.{IsAllowed, found_in, found_length};
 ghost use Rattle.ntfs_clone.specs.Restored.{laid_out};
 ghost use Rattle.ntfs_clone.specs.Taking.{HasGiven, to_come};
-ghost use Rattle.ntfs_clone.specs.Writing.{IsFront, IsHeld, IsRestored, IsSameFile, IsWritten, Makes, Reaches, Restores};
+ghost use Rattle.ntfs_clone.specs.Writing.{IsFront, IsHeld, IsRestored, IsSameFile, IsWritten, Makes, OnTarget, Reaches, Restores};
 
 use crate::backup::back_up;
 use crate::command::{Next, Progress};
 use crate::fault::CloneFault;
 use crate::header::CloneHeader;
 use crate::input::Input;
-use crate::reading::{BUFFER, end, next};
+use crate::reading::{BUFFER, end, next, read_commands};
 use crate::row::Row;
 use crate::writing::{flush, new_row, put_cluster, put_gap};
 use ntfs_base::{HostFile, Source};
@@ -144,5 +144,37 @@ pub fn restore_to<I: Source, F: HostFile>(
         back_up(header, target)
     } else {
         Ok(())
+    }
+}
+
+/// Restores a clone image to an empty file, as `restore_to` does, or only reads it to its end, as `read_commands` does.
+pub fn restore<I: Source, F: HostFile>(
+    alloc: Global,
+    header: &CloneHeader,
+    source: &mut I,
+    target: Option<&mut F>,
+) -> Result<(), CloneFault>
+    requires header { IsHeader header.now }
+    requires empty { IfSome target (λ file. (F.seen file.now).size ≡ 0) }
+    ensures gives { IsTrue (I.seen source.old).is_told → Gives clone_origin (λ done. done)
+        (emptied (clone_commands header.now (to_come (I.seen source.old)))) result }
+    ensures end { OnOk result (IsTrue (I.seen source.old).is_told → to_come (I.seen source.new) ≡ []) }
+    ensures restored { IfSome target.entry (λ before. OnTarget target.exit (λ after.
+        IsTrue (I.seen source.old).is_told → IsTrue (F.seen before.now).is_told
+        → IsRestored header.now (to_come (I.seen source.old)) result (F.seen after.0.now).content)) }
+    ensures size { OnOk result (OnTarget target.exit (λ after. (F.seen after.0.now).size ≡ header.now.device)) }
+    ensures sizes { OnTarget target.exit (λ after.
+        ((F.seen after.0.now).size ≡ 0) ⊎ ((F.seen after.0.now).size ≡ header.now.device)) }
+    ensures same { IfSome target.entry (λ before. OnTarget target.exit (λ after.
+        IsSameDevice (F.seen before.now) (F.seen after.0.now))) }
+    ensures restores { IfSome target.entry (λ before. OnTarget target.exit (λ after.
+        Restores I.Source F.Image source.old source.new before.now after.0.now result)) }
+    ensures only_reads { target.entry ≡ None → IfErr result IsReadOnlyFault }
+    ensures takes { target.entry ≡ None → OnlyTakes I.Source clone_origin source.old source.new result }
+    ensures kept { HasGiven (I.seen source.old) (I.seen source.new) }
+{
+    match target {
+        None => read_commands(alloc, header, source),
+        Some(file) => restore_to(alloc, header, source, file),
     }
 }
