@@ -15,7 +15,7 @@ mod writing;
 pub use fault::CloneFault;
 pub use header::{CloneHeader, read_header};
 pub use reading::read_commands;
-pub use restoring::restore_to;
+pub use restoring::{restore, restore_to};
 
 #[cfg(test)]
 mod tests;

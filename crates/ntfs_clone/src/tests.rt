@@ -4,8 +4,8 @@ ghost use Rattle.std.specs.Prelude.{◌≡◌, [], IfOk};
 ghost use Rattle.ntfs_base.specs.MemShelf.{seen_mem_file};
 ghost use Rattle.ntfs_clone.specs.Header.{IsHeader};
 
-use crate::{CloneFault, CloneHeader, read_commands, read_header, restore_to};
-use ntfs_base::{Leaves, MemContent, MemFile, MemSource};
+use crate::{CloneFault, CloneHeader, read_header, restore};
+use ntfs_base::{Leaves, MemContent, MemFile, MemShelf, MemSource, Shelf, ShelfFault};
 use std::alloc::{AllocError, Global};
 use std::test::Fail;
 
@@ -192,7 +192,7 @@ fn image(alloc: Global, device: u64, pieces: &[Piece<'_>]) -> Result<Vec<u8>, Al
 fn read(alloc: Global, bytes: Vec<u8>) -> Result<(), CloneFault> {
     let mut source = MemSource::new(alloc, bytes);
     let header = read_header(&mut source)?;
-    read_commands(alloc, &header, &mut source)
+    restore(alloc, &header, &mut source, None::<&mut MemFile>)
 }
 
 #[test]
@@ -267,12 +267,12 @@ fn empty_file(alloc: Global, call: u64, leaves: Leaves) -> Result<MemFile, Alloc
 }
 
 /// Restores an image to an empty file.
-fn restore(alloc: Global, bytes: Vec<u8>, target: &mut MemFile) -> Result<(), CloneFault>
+fn restore_into(alloc: Global, bytes: Vec<u8>, target: &mut MemFile) -> Result<(), CloneFault>
     requires { (seen_mem_file target.old).size ≡ 0 }
 {
     let mut source = MemSource::new(alloc, bytes);
     let header = read_header(&mut source)?;
-    restore_to(alloc, &header, &mut source, target)
+    restore(alloc, &header, &mut source, Some(target))
 }
 
 /// Whether the bytes are so many of each of these, in their order.
@@ -306,12 +306,187 @@ fn gaps_are_zeros_and_the_tail_is_cut(rt: HostRuntime) -> Result<(), Fail> {
     ] {
         let mut target = empty_file(alloc, 0, Leaves::Before)?;
         assert_eq!(rt;
-            restore(alloc, image(alloc, device, pieces)?, &mut target),
+            restore_into(alloc, image(alloc, device, pieces)?, &mut target),
             Ok(())
         );
         let [one, two, three] = clusters;
         let [four, five] = last;
         assert!(rt; has_runs(&target.inside.bytes, &[one, two, three, four, five]));
+    }
+    Ok(())
+}
+
+/// A file of a shelf that had many bytes of 0xAA, emptied.
+fn longer_file(alloc: Global) -> Result<MemFile, ShelfFault>
+    ensures { IfOk result (λ file. (seen_mem_file file).size ≡ 0) }
+{
+    let mut shelf = MemShelf::new(alloc);
+    shelf.add(alloc, "B", vec![in alloc; 0xAA; 9000]?)?;
+    shelf.create("B", false)
+}
+
+#[test]
+fn a_longer_file_keeps_nothing(rt: HostRuntime) -> Result<(), Fail> {
+    let alloc = rt.alloc();
+    let mut target = longer_file(alloc).ok().ok_or("the file wasn't made")?;
+    let pieces = [Piece::Gap(1), Piece::Cluster(1), Piece::Gap(2)];
+    assert_eq!(rt;
+        restore_into(alloc, image(alloc, 2560, &pieces)?, &mut target),
+        Ok(())
+    );
+    assert!(rt; has_runs(&target.inside.bytes, &[(512, 0), (512, 1), (1536, 0)]));
+    Ok(())
+}
+
+#[test]
+fn the_commands_before_a_wrong_one_stand(rt: HostRuntime) -> Result<(), Fail> {
+    let alloc = rt.alloc();
+    let a = Piece::Cluster(1);
+    for (pieces, place, rows) in [
+        (
+            [a, Piece::Gap(2), Piece::Cut(512)].as_slice(),
+            56 + 522,
+            [(512, 1), (2048, 0)],
+        ),
+        (
+            &[a, a, Piece::Raw(b"\x02")],
+            56 + 1026,
+            [(1024, 1), (1536, 0)],
+        ),
+        (
+            &[a, a, a, a, Piece::Gap(2)],
+            56 + 2052,
+            [(2048, 1), (512, 0)],
+        ),
+        (&[Piece::Gap(6)], 56, [(0, 1), (2560, 0)]),
+    ] {
+        let mut target = empty_file(alloc, 0, Leaves::Before)?;
+        let fault = Err(CloneFault::BadClone { place });
+        assert_eq!(rt;
+            restore_into(alloc, image(alloc, 2560, pieces)?, &mut target),
+            fault
+        );
+        assert!(rt; has_runs(&target.inside.bytes, &rows));
+    }
+    Ok(())
+}
+
+#[test]
+fn a_failed_call_leaves_a_front(rt: HostRuntime) -> Result<(), Fail> {
+    let alloc = rt.alloc();
+    let pieces = [
+        Piece::Cluster(1),
+        Piece::Gap(2),
+        Piece::Cluster(2),
+        Piece::Cluster(3),
+    ];
+    // The length, the first row and the last one are written by a call each.
+    for (call, leaves, rows) in [
+        (1, Leaves::Before, [(0, 0), (0, 0), (0, 0), (0, 0)]),
+        (1, Leaves::Asked, [(2560, 0), (0, 0), (0, 0), (0, 0)]),
+        (2, Leaves::Before, [(2560, 0), (0, 0), (0, 0), (0, 0)]),
+        (2, Leaves::Asked, [(512, 1), (2048, 0), (0, 0), (0, 0)]),
+        (3, Leaves::Before, [(512, 1), (2048, 0), (0, 0), (0, 0)]),
+        (3, Leaves::Asked, [(512, 1), (1024, 0), (512, 2), (512, 3)]),
+    ] {
+        let mut target = empty_file(alloc, call, leaves)?;
+        let result = restore_into(alloc, image(alloc, 2560, &pieces)?, &mut target);
+        assert_eq!(rt; result, Err(CloneFault::WriteFault));
+        assert!(rt; has_runs(&target.inside.bytes, &rows));
+        assert_eq!(rt; target.inside.calls.made, call);
+    }
+    let mut target = empty_file(alloc, 0, Leaves::Before)?;
+    assert_eq!(rt;
+        restore_into(alloc, image(alloc, 2560, &pieces)?, &mut target),
+        Ok(())
+    );
+    assert_eq!(rt; target.inside.calls.made, 3);
+    Ok(())
+}
+
+/// The clone of a volume of clusters of 4,096 bytes, of which the first begins with a boot sector that has so many
+/// sectors, and so many of them in a cluster; the others are left out, and the tail is 0xEE where it is there.
+fn volume(
+    alloc: Global,
+    device: u64,
+    boot: (u8, u8),
+    has_tail: bool,
+) -> Result<Vec<u8>, AllocError> {
+    let mut cluster = [0; 4096];
+    patch(&mut cluster, 0, b"\xEB\x52\x90NTFS    ");
+    patch(&mut cluster, 0x0B, &[0, 2, boot.1]);
+    patch(&mut cluster, 0x28, &[boot.0]);
+    patch(&mut cluster, 0x30, &[1]);
+    patch(&mut cluster, 0x38, &[2]);
+    patch(&mut cluster, 0x40, &[0xF6, 0, 0, 0, 0xF4]);
+    let mut bytes = header(alloc, 56, 18, &[0, 0x10, 0, 0])?;
+    patch(&mut bytes, 22, &device.to_le_bytes());
+    bytes.push(1)?;
+    bytes.extend_from_slice(&cluster)?;
+    bytes.extend_from_slice(&[0, 3, 0, 0, 0, 0, 0, 0, 0])?;
+    if has_tail {
+        bytes.push(1)?;
+        bytes.extend_from_slice(&[0xEE; 4096])?;
+    }
+    Ok(bytes)
+}
+
+#[test]
+fn the_backup_boot_sector_is_made_where_it_was_left_out(rt: HostRuntime) -> Result<(), Fail> {
+    let alloc = rt.alloc();
+    // The device, the sectors and those of a cluster, whether the tail is there, and the first bytes of the sector
+    // behind all sectors.
+    for (device, boot, has_tail, place, want) in [
+        (
+            16_896,
+            (32, 8),
+            false,
+            16_384,
+            b"\xEB\x52\x90NTFS".as_slice(),
+        ),
+        (16_896, (32, 8), true, 16_384, &[0xEE; 7]),
+        (16_895, (32, 8), false, 16_384, &[0; 7]),
+        (17_408, (33, 8), false, 16_896, b"\xEB\x52\x90NTFS"),
+        (17_408, (33, 8), false, 16_384, &[0; 7]),
+        (17_408, (32, 4), false, 16_384, &[0; 7]),
+        (20_992, (40, 8), false, 20_480, &[0; 7]),
+    ] {
+        let mut target = empty_file(alloc, 0, Leaves::Before)?;
+        let bytes = volume(alloc, device, boot, has_tail)?;
+        assert_eq!(rt; restore_into(alloc, bytes, &mut target), Ok(()));
+        assert_eq!(rt; target.inside.bytes.len() as u64, device);
+        assert_eq!(rt; target.inside.bytes.get(place..place + 7), Some(want));
+    }
+    Ok(())
+}
+
+#[test]
+fn a_failed_read_is_told(rt: HostRuntime) -> Result<(), Fail> {
+    let alloc = rt.alloc();
+    // The header's first part, its rest, the commands and the end are read by a call each.
+    for call in [1, 2, 3, 4] {
+        let mut source = MemSource::new(alloc, image(alloc, 2560, &[Piece::Gap(4)])?);
+        source.calls.fail(alloc, call, Leaves::Before)?;
+        let result = match read_header(&mut source) {
+            Ok(header) => restore(alloc, &header, &mut source, None::<&mut MemFile>),
+            Err(fault) => Err(fault),
+        };
+        assert_eq!(rt; result, Err(CloneFault::ReadFault));
+        assert_eq!(rt; source.faults, 1);
+    }
+    // The first sector is read back by two calls, and then the copy is written.
+    for (call, fault) in [
+        (3, CloneFault::ReadFault),
+        (4, CloneFault::ReadFault),
+        (5, CloneFault::WriteFault),
+    ] {
+        let mut target = empty_file(alloc, call, Leaves::Before)?;
+        let bytes = volume(alloc, 16_896, (32, 8), false)?;
+        assert_eq!(rt; restore_into(alloc, bytes, &mut target), Err(fault));
+        assert_eq!(rt;
+            target.inside.bytes.get(16_384..16_388),
+            Some(b"\0\0\0\0".as_slice())
+        );
     }
     Ok(())
 }
