@@ -6,6 +6,7 @@ mod command;
 mod fault;
 mod header;
 mod input;
+pub mod laws;
 mod reading;
 mod restoring;
 mod row;

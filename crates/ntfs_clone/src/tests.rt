@@ -2,7 +2,6 @@
 //! The images are spelled here from the format in words.
 ghost use Rattle.std.specs.Prelude.{◌≡◌, [], IfOk};
 ghost use Rattle.ntfs_base.specs.MemShelf.{seen_mem_file};
-ghost use Rattle.ntfs_clone.specs.Header.{IsHeader};
 
 use crate::{CloneFault, CloneHeader, read_header, restore};
 use ntfs_base::{Leaves, MemContent, MemFile, MemShelf, MemSource, Shelf, ShelfFault};
@@ -316,19 +315,27 @@ fn gaps_are_zeros_and_the_tail_is_cut(rt: HostRuntime) -> Result<(), Fail> {
     Ok(())
 }
 
-/// A file of a shelf that had many bytes of 0xAA, emptied.
-fn longer_file(alloc: Global) -> Result<MemFile, ShelfFault>
-    ensures { IfOk result (λ file. (seen_mem_file file).size ≡ 0) }
+/// So many bytes of 0xAA.
+fn filled(alloc: Global, count: usize) -> Result<Vec<u8>, AllocError> {
+    vec![in alloc; 0xAA; count]
+}
+
+/// The file of a shelf under a name, made anew.
+fn made_anew<S: Shelf>(shelf: &mut S, name: &str) -> Result<S::File, ShelfFault>
+    requires { (S.seen shelf.old).attached ≡ [] }
+    ensures { IfOk result (λ file. (S.File.seen file).size ≡ 0) }
 {
-    let mut shelf = MemShelf::new(alloc);
-    shelf.add(alloc, "B", vec![in alloc; 0xAA; 9000]?)?;
-    shelf.create("B", false)
+    shelf.create(name, false)
 }
 
 #[test]
 fn a_longer_file_keeps_nothing(rt: HostRuntime) -> Result<(), Fail> {
     let alloc = rt.alloc();
-    let mut target = longer_file(alloc).ok().ok_or("the file wasn't made")?;
+    let mut shelf = MemShelf::new(alloc);
+    shelf.add(alloc, "B", filled(alloc, 9000)?)?;
+    let mut target = made_anew(&mut shelf, "B")
+        .ok()
+        .ok_or("the file wasn't made")?;
     let pieces = [Piece::Gap(1), Piece::Cluster(1), Piece::Gap(2)];
     assert_eq!(rt;
         restore_into(alloc, image(alloc, 2560, &pieces)?, &mut target),
