@@ -1,0 +1,61 @@
+-- The clone image of a volume, as a save writes it: the header, then each owned cluster with its bytes, each longest row
+-- of others as one gap, and the tail, which holds the backup boot sector. The words are ours.
+use Rattle.std.specs.Prelude.{◌+◌, ◌-◌, ◌*◌, ℕ, zero, suc, Bool, List, [], ◌∷◌, ◌++◌, drop, replicate, take, if◌then◌else◌}
+use Rattle.byteorder.specs.Endian.{little_bytes}
+use Rattle.ntfs_base.specs.Bytes.{cluster_at}
+use Rattle.ntfs_base.specs.Growth.{resize_of}
+use Rattle.ntfs_clone.specs.declared.header.CloneHeader.{CloneHeader}
+use Rattle.ntfs_clone.specs.Header.{clone_magic, clone_version}
+use Rattle.ntfs_clone.specs.Commands.{Command, gap, cluster, commands_bytes}
+
+-- a volume to be saved: the sizes in bytes of a cluster and of the device, the number of clusters, which of them are
+-- owned, and the bytes of the image
+pub record Volume : Type 0 where
+  pub cluster : ℕ
+  pub clusters : ℕ
+  pub device : ℕ
+  pub owned : ℕ → Bool
+  pub image : List ℕ
+
+-- a cluster that is left out widens the gap behind it
+abbrev pub widened : List Command → List Command
+widened [] = gap 1 ∷ []
+widened (gap count ∷ commands) = gap (count + 1) ∷ commands
+widened (cluster bytes ∷ commands) = gap 1 ∷ cluster bytes ∷ commands
+
+-- the commands of so many clusters from one on, before these commands
+abbrev pub cluster_commands : Volume → ℕ → ℕ → List Command → List Command
+cluster_commands v from zero behind = behind
+cluster_commands v from (suc count) behind =
+    if v.owned from then cluster (cluster_at v.image v.cluster from) ∷ cluster_commands v (from + 1) count behind
+    else widened (cluster_commands v (from + 1) count behind)
+
+-- what stands behind all clusters up to the end of the device, as one cluster: with zeros where the image ends early
+abbrev pub tail_of : Volume → List ℕ
+tail_of v = resize_of v.cluster (take (v.device - v.clusters * v.cluster) (drop (v.clusters * v.cluster) v.image))
+
+abbrev pub saved_commands : Volume → List Command
+saved_commands v = cluster_commands v 0 v.clusters (cluster (tail_of v) ∷ [])
+
+-- how many of so many clusters from one on are owned
+abbrev pub owned_count : (ℕ → Bool) → ℕ → ℕ → ℕ
+owned_count owned from zero = 0
+owned_count owned from (suc count) = (if owned from then 1 else 0) + owned_count owned (from + 1) count
+
+unfoldable pub saved_header : Volume → CloneHeader
+saved_header v = record {
+  cluster = v.cluster;
+  device = v.device;
+  clusters = v.clusters;
+  in_use = owned_count v.owned 0 v.clusters;
+  offset = 56;
+}
+
+-- the bytes of a header whose commands begin at 56
+unfoldable pub header_bytes : CloneHeader → List ℕ
+header_bytes h =
+    clone_magic ++ (clone_version ++ (little_bytes 4 h.cluster ++ (little_bytes 8 h.device ++ (little_bytes 8 h.clusters
+    ++ (little_bytes 8 h.in_use ++ (little_bytes 4 h.offset ++ replicate 6 0))))))
+
+unfoldable pub clone_of : Volume → List ℕ
+clone_of v = header_bytes (saved_header v) ++ commands_bytes (saved_commands v)

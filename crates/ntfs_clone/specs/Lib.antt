@@ -1,0 +1,12 @@
+pub use Rattle.ntfs_base.specs.Bytes
+pub use Rattle.ntfs_base.specs.Causes
+pub use Rattle.ntfs_base.specs.Source
+pub use Rattle.ntfs_boot.specs.Geometry
+pub mod Fault
+pub mod Taking
+pub mod Header
+pub mod Commands
+pub mod CloneOf
+pub mod Restored
+pub mod Reading
+pub mod Writing
