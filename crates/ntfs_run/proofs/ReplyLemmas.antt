@@ -20,7 +20,6 @@ use Rattle.ntfs_words.specs.declared.request.Request.TheVariants as request
 use Rattle.ntfs_words.specs.declared.request.WordsFault.{WordsFault}
 use Rattle.ntfs_words.specs.declared.request.WordsFault.TheVariants as words_fault
 use Rattle.ntfs_words.specs.declared.tool.Tool.{Tool}
-use Rattle.ntfs_words.specs.declared.request.Ask.TheVariants as ask
 use Rattle.ntfs_run.specs.Cat.{CatRefuses}
 use Rattle.ntfs_run.specs.Cluster.{ClusterRefuses}
 use Rattle.ntfs_run.specs.Command.{is_built, request_in, tool_in}
@@ -72,7 +71,7 @@ is_other : (request : Request) (fault : Status) → is_built request ≡ true �
 is_other (request.Info mft None image) fault built is = geometry_other fault is
 is_other (request.Info mft (Some number) image) fault built is = record_other fault is
 is_other (request.Cat place kind name image) fault built is = cat_other fault is
-is_other (request.Cluster ask.Info image) fault built is = cluster_other fault is
+is_other (request.Cluster question image) fault built is = cluster_other fault is
 is_other (request.Make file seed clusters cluster) fault built is = make_other fault is
 is_other other fault built is = absurd cc
 

@@ -18,14 +18,16 @@ use Rattle.ntfs_volume.specs.Fault.{volume_origin}
 use Rattle.ntfs_volume.specs.Opened.{Opened, opened_of}
 use Rattle.ntfs_volume.specs.declared.fault.VolumeFault.{VolumeFault}
 use Rattle.ntfs_volume.specs.declared.fault.VolumeFault.TheVariants as volume
-use Rattle.ntfs_words.specs.declared.request.Ask.TheVariants as ask
 use Rattle.ntfs_words.specs.declared.request.Request.{Request}
 use Rattle.ntfs_words.specs.declared.request.Request.TheVariants as request
 use Rattle.ntfs_show.specs.Cat.{cat_outcome}
 use Rattle.ntfs_words.specs.declared.request.Target.{Target}
 use Rattle.ntfs_run.specs.Place.{number_meant}
 use Rattle.ntfs_run.specs.Cat.{CatRefuses, cat_bytes}
-use Rattle.ntfs_run.specs.Cluster.{ClusterRefuses}
+use Rattle.ntfs_show.specs.Owners.{owners_outcome}
+use Rattle.ntfs_show.specs.declared.owner_query.OwnerQuery.{OwnerQuery}
+use Rattle.ntfs_words.specs.declared.request.Ask.{Ask}
+use Rattle.ntfs_run.specs.Cluster.{ClusterRefuses, owner_lines, query_of}
 use Rattle.ntfs_run.specs.Info.{GeometryRefuses, RecordRefuses, image_lines}
 use Rattle.ntfs_run.specs.Outcome.{AttachRefuses, image_status, show_status, status_origin, volume_status}
 use Rattle.ntfs_run.specs.Show.{ShowRefuses, asks_geometry, image_printing, volume_printing}
@@ -156,7 +158,7 @@ pub attach_refuses : (r : Request) (fault : Status) → AttachRefuses fault → 
 attach_refuses (request.Info mft None image) fault is = attach_geometry fault is
 attach_refuses (request.Info mft (Some number) image) fault is = attach_record fault is
 attach_refuses (request.Cat place kind name image) fault is = attach_cat fault is
-attach_refuses (request.Cluster ask.Info image) fault is = attach_cluster fault is
+attach_refuses (request.Cluster question image) fault is = attach_cluster fault is
 attach_refuses other fault is = tt
 
 record_opening : (fault : VolumeFault) → RecordRefuses (volume_status fault)
@@ -197,7 +199,7 @@ pub open_refuses : (r : Request) (fault : VolumeFault) → asks_geometry r ≡ f
 open_refuses (request.Info mft None image) fault is = absurd cc
 open_refuses (request.Info mft (Some number) image) fault is = record_opening fault
 open_refuses (request.Cat place kind name image) fault is = cat_opening fault
-open_refuses (request.Cluster ask.Info image) fault is = cluster_opening fault
+open_refuses (request.Cluster question image) fault is = cluster_opening fault
 open_refuses other fault is = tt
 
 -- of the output
@@ -205,7 +207,7 @@ pub flush_refuses : (r : Request) → ShowRefuses r status.WriteFault
 flush_refuses (request.Info mft None image) = tt
 flush_refuses (request.Info mft (Some number) image) = tt
 flush_refuses (request.Cat place kind name image) = tt
-flush_refuses (request.Cluster ask.Info image) = tt
+flush_refuses (request.Cluster question image) = tt
 flush_refuses other = tt
 
 geometry_shows : (r : Request) (fault : Status) → asks_geometry r ≡ true → GeometryRefuses fault → ShowRefuses r fault
@@ -226,3 +228,15 @@ pub meant_bytes : (place : Target) (kind : ℕ) (name : List ℕ) (volume : Open
     → number_meant place volume image ≡ Ok number → cat_bytes place kind name volume image ≡ refused_as show_status (cat_outcome volume image number kind name)
 unfolding cat_bytes
 meant_bytes place kind name volume image number is = ap (λ r. r >>= (λ number. refused_as show_status (cat_outcome volume image number kind name))) is
+
+-- ---- the question about owners
+
+pub unasked_lines : (question : Ask) (volume : Opened) (image : List ℕ) (fault : Status)
+    → query_of question volume image ≡ Err fault → owner_lines question volume image ≡ Err fault
+unfolding owner_lines
+unasked_lines question volume image fault is = ap (λ r. r >>= (λ asks. refused_as show_status (owners_outcome volume image asks))) is
+
+pub asked_lines : (question : Ask) (volume : Opened) (image : List ℕ) (query : OwnerQuery)
+    → query_of question volume image ≡ Ok query → owner_lines question volume image ≡ refused_as show_status (owners_outcome volume image query)
+unfolding owner_lines
+asked_lines question volume image query is = ap (λ r. r >>= (λ asks. refused_as show_status (owners_outcome volume image asks))) is

@@ -7,12 +7,12 @@ use Rattle.ntfs_base.specs.declared.refusal.UsageKind.TheVariants as usage
 use Rattle.ntfs_words.specs.Numbers.{only_if}
 use Rattle.ntfs_words.specs.Tool.{tool_of}
 use Rattle.ntfs_words.specs.Words.{asked}
-use Rattle.ntfs_words.specs.declared.request.Ask.TheVariants as ask
 use Rattle.ntfs_words.specs.declared.request.Request.{Request}
 use Rattle.ntfs_words.specs.declared.request.Request.TheVariants as request
 use Rattle.ntfs_words.specs.declared.request.WordsFault.{WordsFault}
 use Rattle.ntfs_words.specs.declared.request.WordsFault.TheVariants.{Usage}
 use Rattle.ntfs_words.specs.declared.tool.Tool.{Tool}
+use Rattle.ntfs_run.specs.Cluster.{is_answered}
 use Rattle.ntfs_words.specs.declared.tool.Tool.TheVariants.{Info, Ls, Cat, Cluster, Cp, Clone, Resize, Fix, Make, Trial}
 
 -- a tool that stands; the word of another one names no tool yet
@@ -36,7 +36,7 @@ tool_in words = only_if is_standing (tool_of words)
 abbrev pub is_built : Request → Bool
 is_built (request.Info mft number image) = true
 is_built (request.Cat place kind name image) = true
-is_built (request.Cluster ask.Info image) = true
+is_built (request.Cluster question image) = is_answered question
 is_built (request.Make file seed clusters cluster) = true
 is_built other = false
 

@@ -41,7 +41,11 @@ fn is_built(request: &Request) -> bool
     match request {
         Request::Info { .. } => true,
         Request::Cat { .. } => true,
-        Request::Cluster { ask: Ask::Info, .. } => true,
+        Request::Cluster {
+            ask: Ask::Clusters { .. },
+            ..
+        } => false,
+        Request::Cluster { .. } => true,
         Request::Make { .. } => true,
         _ => false,
     }

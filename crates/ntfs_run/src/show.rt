@@ -13,9 +13,8 @@ use crate::info::{print_geometry, print_record};
 use crate::outside::{attach_image, flush};
 use crate::status::Status;
 use ntfs_base::{Image, Shelf, Sink, UsageKind};
-use ntfs_show::OwnerQuery;
 use ntfs_volume::{Table, read_table};
-use ntfs_words::{Ask, Request};
+use ntfs_words::Request;
 use std::alloc::Global;
 
 /// Prints what a request asks about the image of a name, and flushes the output.
@@ -145,9 +144,7 @@ fn print_asked<G: Image, O: Sink>(
             };
             put_stream(alloc, &stream, image, table, out)
         }
-        Request::Cluster { ask: Ask::Info, .. } => {
-            print_owners(alloc, OwnerQuery::Info, image, table, out)
-        }
+        Request::Cluster { ask, .. } => print_owners(alloc, ask, image, table, out),
         _ => Err(Status::Usage {
             kind: UsageKind::Tool,
         }),
