@@ -10,3 +10,14 @@ pub mod HeldLemmas
 pub mod ScanLemmas
 pub mod LineLemmas
 pub mod FileLemmas
+pub mod ListLemmas
+pub mod ListStateLemmas
+pub mod UnmetLemmas
+pub mod DescentLemmas
+pub mod ListPathLemmas
+pub mod SweepLemmas
+pub mod SpanLemmas
+pub mod RangeLemmas
+pub mod StartLemmas
+pub mod TurnLemmas
+pub mod RangeOutcomeLemmas

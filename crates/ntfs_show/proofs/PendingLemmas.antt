@@ -212,3 +212,32 @@ pub pushes-same : {T U E : Type 0} (a b x y waiting held kept : List ℕ) (befor
     → Pushes {E = E} x waiting before (Ok u) held now → Pushes y held now result kept after → Pushes (a ++ b) waiting before result kept after
 pushes-same a b x y waiting held kept before now after u result is same one two =
     subst (λ text. Pushes text waiting before result kept after) (ap₂ (λ x y. x ++ y) is same) (pushes-then x y waiting held kept before now after u result one two)
+
+-- three texts by other words
+pub pushes-three : {T U E : Type 0} (a b c x y z waiting w1 w2 w3 : List ℕ) (s0 s1 s2 s3 : SinkState) (u : U) (result : Result T E) → x ≡ a → y ≡ b → z ≡ c
+    → Pushes {E = E} x waiting s0 (Ok u) w1 s1 → Pushes {E = E} y w1 s1 (Ok u) w2 s2 → Pushes z w2 s2 result w3 s3 → Pushes (a ++ (b ++ c)) waiting s0 result w3 s3
+pushes-three a b c x y z waiting w1 w2 w3 s0 s1 s2 s3 u result xa yb zc one two three =
+    subst (λ text. Pushes text waiting s0 result w3 s3) (ap₂ (λ p q. p ++ q) xa (ap₂ (λ p q. p ++ q) yb zc))
+    (pushes-then x (y ++ z) waiting w1 w3 s0 s1 s3 u result one (pushes-then y z w1 w2 w3 s1 s2 s3 u result two three))
+
+-- one that is cut off follows another one
+pub pushes-then-cut : {T U D E : Type 0} (a b waiting held kept last : List ℕ) (before now after : SinkState) (u : U) (d : D) (e : E) → Pushes {E = D} a waiting before (Ok u) held now
+    → Pushes {T = T} b held now (Err d) kept after → Pushes {T = T} (a ++ b) waiting before (Err e) last after
+pushes-then-cut a b waiting held kept last before now after u d e one two = record {
+  whole = tt;
+  part = printed-cut (waiting ++ (a ++ b)) (waiting ++ a) b [] held before now after (sym (append_assoc waiting a b) ∙ sym (append-nil ((waiting ++ a) ++ b))) one.whole two.part;
+}
+
+-- the second of three was cut off
+pub pushes-second : {T U D E : Type 0} (a b c x y waiting w1 w2 w3 : List ℕ) (s0 s1 s2 : SinkState) (u : U) (d : D) (e : E) → x ≡ a → y ≡ b
+    → Pushes {E = D} x waiting s0 (Ok u) w1 s1 → Pushes {T = T} y w1 s1 (Err d) w2 s2 → Pushes {T = T} (a ++ (b ++ c)) waiting s0 (Err e) w3 s2
+pushes-second {T = T} a b c x y waiting w1 w2 w3 s0 s1 s2 u d e xa yb one two =
+    subst (λ text. Pushes {T = T} text waiting s0 (Err e) w3 s2) (ap₂ (λ p q. p ++ q) xa (ap (λ q. q ++ c) yb))
+    (pushes-then-cut x (y ++ c) waiting w1 w2 w3 s0 s1 s2 u d e one (pushes-cut y c w1 w2 w2 s1 s2 d d two))
+
+-- a refusal between two turns
+pub way-stop : {T E : Type 0} (all rest waiting held last : List ℕ) (before now : SinkState) (e : E) → IsUnderWay all rest waiting before held now → Pushes {T = T} all waiting before (Err e) last now
+way-stop all rest waiting held last before now e way = record {
+  whole = tt;
+  part = printed-stop (waiting ++ all) (waiting ++ way.done) rest held before now (ap (λ xs. waiting ++ xs) way.parts ∙ sym (append_assoc waiting way.done rest)) way.so_far;
+}

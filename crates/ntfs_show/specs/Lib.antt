@@ -10,3 +10,9 @@ pub mod OwnerLines
 pub mod Owners
 pub mod Pending
 pub mod RecordInfo
+pub mod Progress
+pub mod Listing
+pub mod ListState
+pub mod Descent
+pub mod ListPath
+pub mod Sweep

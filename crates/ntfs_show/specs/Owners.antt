@@ -1,6 +1,6 @@
 -- What is printed of who owns the clusters of a volume (the Linux-NTFS documentation, "Data Runs", on what a run and a
 -- hole are, and "$BadClus" on the stream of bad clusters). The texts, their order and the words are ours.
-use Rattle.std.specs.Prelude.{◌≡◌, ◌⊎◌, ◌-◌, ◌==◌, ◌&&◌, ℕ, Bool, true, false, List, [], ◌∷◌, ◌++◌, map, Option, Some, None, Result, Ok, Err}
+use Rattle.std.specs.Prelude.{◌≡◌, ◌⊎◌, ◌+◌, ◌-◌, ◌==◌, ◌&&◌, ℕ, Bool, true, false, List, [], ◌∷◌, ◌++◌, map, min, Option, Some, None, Result, Ok, Err}
 use Rattle.std.specs.List.{list_any}
 use Rattle.std.specs.Str.{bytes_eq}
 use Rattle.ntfs_base.specs.Bytes.{cluster_at}
@@ -14,12 +14,12 @@ use Rattle.ntfs_runs.specs.declared.run.Run.{Run}
 use Rattle.ntfs_show.specs.Fault.{gather_refusal}
 use Rattle.ntfs_show.specs.Held.{Held, slots_held}
 use Rattle.ntfs_show.specs.Info.{number_line}
-use Rattle.ntfs_show.specs.OwnerLines.{held_lines}
+use Rattle.ntfs_show.specs.OwnerLines.{held_clusters, held_lines}
 use Rattle.ntfs_show.specs.declared.fault.ShowFault.{ShowFault}
 use Rattle.ntfs_show.specs.declared.fault.ShowFault.TheVariants as show
-use Rattle.ntfs_show.specs.declared.info.Label.TheVariants.{Clusters, Owned, Bad, Free}
+use Rattle.ntfs_show.specs.declared.info.Label.TheVariants as label
 use Rattle.ntfs_show.specs.declared.owner_query.OwnerQuery.{OwnerQuery}
-use Rattle.ntfs_show.specs.declared.owner_query.OwnerQuery.TheVariants.{Info, Number}
+use Rattle.ntfs_show.specs.declared.owner_query.OwnerQuery.TheVariants.{Clusters, Info, Number}
 use Rattle.ntfs_show.specs.declared.owner_query.Summary.{Summary}
 use Rattle.ntfs_survey.specs.Owned.{runs_in, volume_survey}
 use Rattle.ntfs_survey.specs.Surveying.{record_at, shown_located}
@@ -104,10 +104,10 @@ volume_summary o f = do
 -- its four lines; free are the clusters that have no owner
 unfoldable pub summary_lines : Summary → List ℕ
 summary_lines s =
-    number_line Clusters s.clusters
-    ++ number_line Owned s.owned
-    ++ number_line Bad s.bad
-    ++ number_line Free (s.clusters - s.owned)
+    number_line label.Clusters s.clusters
+    ++ number_line label.Owned s.owned
+    ++ number_line label.Bad s.bad
+    ++ number_line label.Free (s.clusters - s.owned)
 
 -- what is printed of it
 unfoldable pub summary_outcome : Opened → (ℕ → List ℕ) → Result (List ℕ) ShowFault
@@ -144,16 +144,35 @@ file_outcome o f number = do
   held ← file_runs o f number
   Ok (held_lines held)
 
+-- ---- who has the clusters of a range
+
+-- any record
+abbrev pub all_records : ℕ → ℕ → Bool
+all_records r base = true
+
+-- the clusters of a range whose last one is told that an opened volume has: how many there are from the first on
+abbrev pub range_count : Opened → ℕ → ℕ → ℕ
+range_count o from to = min o.geometry.clusters (to + 1) - from
+
+-- for each cluster of a range, ascending, a line for each attribute and each of its runs that has it, by record, by
+-- place, by VCN: the survey's refusals come first
+unfoldable pub range_outcome : Opened → (ℕ → List ℕ) → ℕ → ℕ → Result (List ℕ) ShowFault
+range_outcome o f from to = do
+  owners ← refused_as (gather_refusal 0) (volume_survey o f)
+  Ok (held_clusters from (range_count o from to) (slots_held all_records all_runs 0 (slots_of o.geometry o.map f)))
+
 -- ---- what is printed
 
 -- what a query prints of an opened volume
 unfoldable pub owners_outcome : Opened → List ℕ → OwnerQuery → Result (List ℕ) ShowFault
 owners_outcome o image Info = summary_outcome o (cluster_at image o.geometry.cluster)
+owners_outcome o image (Clusters from to) = range_outcome o (cluster_at image o.geometry.cluster) from to
 owners_outcome o image (Number number) = file_outcome o (cluster_at image o.geometry.cluster) number
 
 -- a query can say that this is missing: a record, where it is asked for
 abbrev pub IsMissing : OwnerQuery → Missing → Type 0
 IsMissing Info what = ⊥
+IsMissing (Clusters from to) what = ⊥
 IsMissing (Number number) what = what ≡ missing.Record number
 
 -- the refusals of a query, whatever the image tells: damage by rule C4 or C7, what is missing, and faults

@@ -12,6 +12,7 @@ ghost use Rattle.ntfs_survey.specs.Owned.{is_whole, runs_in, volume_survey};
 ghost use Rattle.ntfs_survey.specs.Surveying.{record_at};
 ghost use Rattle.ntfs_volume.specs.Opened.{HasClusters};
 
+use crate::cluster_query::show_range;
 use crate::cover::{add_runs, owned_count};
 use crate::fault::{ShowFault, gather_refusal};
 use crate::file_runs::{read_refusal, show_file};
@@ -30,6 +31,8 @@ use std::alloc::{AllocError, Global};
 pub enum OwnerQuery {
     /// How many clusters there are, are owned, are bad and are free.
     Info,
+    /// The attributes that have a cluster, for each from one to another, which is among them.
+    Clusters { from: u64, to: u64 },
     /// The runs of the attributes of a record and of its extension records.
     Number { number: u64 },
 }
@@ -262,9 +265,12 @@ fn show_summary<G: Image, K: Sink>(
 /// The volume is surveyed first: nothing is put where a record isn't right, or mapping pairs aren't. For a summary
 /// there are four lines, `clusters: `, `owned: `, `bad: ` and `free: `, with numbers. A cluster is owned that an
 /// attribute of a record in use names, and bad where a $DATA attribute `$Bad` of record 8 itself names it; each is
-/// counted once. For a record there is a line for each run, holes too, of each attribute of it and of its extension
-/// records, by record, place and VCN: `record R 0x80 "NAME" vcn V lcn L length N`, with `lcn hole` for a hole; nothing
-/// is put where it isn't in use. After a fault or want of memory a prefix of the lines was put.
+/// counted once. For a range of clusters there is a line for each attribute and each of its runs that has the cluster,
+/// by cluster, then by record, place and VCN: `cluster C record R 0x80 "NAME" vcn V`. For a record there is a line for
+/// each run, holes too, of each attribute of it and of its extension records, by record, place and VCN:
+/// `record R 0x80 "NAME" vcn V lcn L length N`, with `lcn hole` for a hole; nothing is put where it isn't in use. After
+/// a fault or want of memory a prefix of the lines was put. Beside the survey's memory and a mebibyte it takes memory
+/// for the runs and names of what is printed, and then 65,536 bytes.
 pub fn show_owners<G: Image, K: Sink>(
     alloc: Global,
     image: &mut G,
@@ -280,6 +286,7 @@ pub fn show_owners<G: Image, K: Sink>(
 {
     match *query {
         OwnerQuery::Info => show_summary(alloc, image, table, out),
+        OwnerQuery::Clusters { from, to } => show_range(alloc, image, table, from, to, out),
         OwnerQuery::Number { number } => show_file(alloc, image, table, number, out),
     }
 }

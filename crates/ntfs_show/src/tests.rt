@@ -829,3 +829,114 @@ fn each_call_of_a_list_of_runs_failing_alone(rt: HostRuntime) -> Result<(), Fail
     assert_eq!(rt; out.content.as_slice(), b"rec".as_slice());
     Ok(())
 }
+
+/// Cluster 50 has five owners.
+const OF_50: &[u8] = b"cluster 50 record 16 0x80 \"s\" vcn 0\n\
+    cluster 50 record 17 0x80 \"\" vcn 0\n\
+    cluster 50 record 18 0x80 \"\" vcn 0\n\
+    cluster 50 record 20 0x80 \"\" vcn 0\n\
+    cluster 50 record 22 0x80 \"\" vcn 0\n";
+
+/// Cluster 49 has two.
+const OF_49: &[u8] =
+    b"cluster 49 record 17 0x80 \"\" vcn 1\ncluster 49 record 22 0x80 \"\" vcn 1\n";
+
+/// The lines of all owned clusters of the volume.
+fn all_owned(alloc: Global) -> Result<Vec<u8>, AllocError> {
+    let mut lines = Vec::new(alloc);
+    for vcn in 0..32_u64 {
+        let cluster = vcn + 4;
+        let line = format!(in alloc; "cluster {cluster} record 0 0x80 \"\" vcn {vcn}\n")?;
+        lines.extend_from_slice(line.as_bytes())?;
+    }
+    lines.extend_from_slice(OF_49)?;
+    lines.extend_from_slice(OF_50)?;
+    Ok(lines)
+}
+
+/// A range of one cluster, of some, of none owned, beyond the volume, turned round, and of all.
+#[test]
+fn owners_of_a_range_are_listed(rt: HostRuntime) -> Result<(), Fail> {
+    let alloc = rt.alloc();
+    let bytes = volume(alloc)?;
+    let all = all_owned(alloc)?;
+    let last = b"cluster 35 record 0 0x80 \"\" vcn 31\n".as_slice();
+    let cases: [(u64, u64, &[u8]); 10] = [
+        (50, 50, OF_50),
+        (49, 49, OF_49),
+        (51, 63, b""),
+        (36, 48, b""),
+        (35, 48, last),
+        (35, 35, last),
+        (64, u64::MAX, b""),
+        (u64::MAX, u64::MAX, b""),
+        (50, 49, b""),
+        (0, u64::MAX, all.as_slice()),
+    ];
+    for (from, to, want) in cases {
+        tells(
+            &rt,
+            alloc,
+            &bytes,
+            OwnerQuery::Clusters { from, to },
+            Ok(()),
+            want,
+        )?;
+    }
+    Ok(())
+}
+
+/// Two attributes of a record have cluster 61, one behind a hole; an attribute has cluster 50 twice.
+#[test]
+fn a_cluster_is_listed_for_each_of_its_runs(rt: HostRuntime) -> Result<(), Fail> {
+    let alloc = rt.alloc();
+    let mut bytes = volume(alloc)?;
+    two_streams(&mut bytes, BAD.name, BAD.name);
+    let bad = b"cluster 60 record 8 0x80 \"$Bad\" vcn 3\n\
+        cluster 61 record 8 0x80 \"$Bad\" vcn 4\n\
+        cluster 61 record 8 0x80 \"$Bad\" vcn 5\n\
+        cluster 62 record 8 0x80 \"$Bad\" vcn 6\n";
+    let query = OwnerQuery::Clusters { from: 51, to: 63 };
+    tells(&rt, alloc, &bytes, query, Ok(()), bad)?;
+    let mut bytes = empty(alloc)?;
+    stream(&mut bytes, 17, TWO);
+    patch(&mut bytes, record_at(17) + 56 + 72 + 5, &[0]);
+    let twice = b"cluster 50 record 17 0x80 \"\" vcn 0\n\
+    cluster 50 record 17 0x80 \"\" vcn 1\n";
+    let query = OwnerQuery::Clusters { from: 36, to: 63 };
+    tells(&rt, alloc, &bytes, query, Ok(()), twice)?;
+    Ok(())
+}
+
+/// Nothing is put before the survey's refusals. All records are read twice, and each call that fails alone is told.
+#[test]
+fn owners_of_a_range_are_refused(rt: HostRuntime) -> Result<(), Fail> {
+    let alloc = rt.alloc();
+    let query = OwnerQuery::Clusters { from: 50, to: 50 };
+    let mut bytes = volume(alloc)?;
+    patch(&mut bytes, record_at(22) + 510, &[6]);
+    let torn = ShowFault::Damaged {
+        rule: Rule::C4,
+        number: 22,
+    };
+    tells(&rt, alloc, &bytes, query, Err(torn), b"")?;
+    for failing in 3..5 {
+        let mut image = MemImage::new(alloc, volume(alloc)?);
+        image.inside.calls.fail(alloc, failing, Leaves::Before)?;
+        let mut out = MemSink::new(alloc);
+        assert_eq!(rt;
+            ask(alloc, &mut image, &query, &mut out),
+            Ok(Err(ShowFault::ReadFault))
+        );
+        assert!(rt; out.content.is_empty());
+    }
+    let mut image = MemImage::new(alloc, volume(alloc)?);
+    let mut out = MemSink::new(alloc);
+    out.calls.fail(alloc, 1, Leaves::Front { bytes: 9 })?;
+    assert_eq!(rt;
+        ask(alloc, &mut image, &query, &mut out),
+        Ok(Err(ShowFault::WriteFault))
+    );
+    assert_eq!(rt; out.content.as_slice(), b"cluster 5".as_slice());
+    Ok(())
+}

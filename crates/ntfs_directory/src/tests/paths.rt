@@ -15,8 +15,8 @@ const TABLE: usize = 4 * 4096;
 /// A name in UTF-16LE, and the reference of its entry.
 type Named<'a> = (&'a [u8], u64);
 
-/// A place in the image, and a byte that is put there.
-type Patch = (usize, u8);
+/// A record, a place in it, and a byte that is put there.
+type Patch = (usize, usize, u8);
 
 /// The place of a byte of a record.
 fn at(number: usize, place: usize) -> usize {
@@ -96,8 +96,10 @@ fn named(alloc: Global, root: &[Named<'_>], below: &[Named<'_>]) -> Result<Vec<u
 /// The image of a volume with a byte put over another.
 fn image(alloc: Global, volume: &[u8], patch: Patch) -> Result<MemImage, AllocError> {
     let mut bytes = Vec::from_slice(alloc, volume)?;
-    let (place, byte) = patch;
-    put(&mut bytes, place, &[byte]);
+    let (number, place, byte) = patch;
+    if number != 0 {
+        put(&mut bytes, at(number, place), &[byte]);
+    }
     Ok(MemImage::new(alloc, bytes))
 }
 
@@ -144,112 +146,113 @@ const ROOT: &[Named<'_>] = &[(b"A\0", 7), (b"a\0", 6), (b"\x34\xD8\x1E\xDD", 9)]
 
 const BELOW: &[Named<'_>] = &[(b"a\0A\0", 7), (b"A\0a\0", 9), (b"c\0", 0x3_0000_0000_0009)];
 
-#[test]
-fn paths_are_split_and_looked_up(rt: HostRuntime) -> Result<(), Fail> {
-    let alloc = rt.alloc();
-    let volume = named(alloc, ROOT, BELOW)?;
-    for (path, number, directory) in [
-        ("", "5", "5"),
-        ("//", "5", "5"),
-        ("a", "6", "6"),
-        ("/a//", "6", "6"),
-        ("A", "7", "part 1"),
-        ("a//c/", "9", "part 2"),
-        ("a/A\u{61}", "9", "part 2"),
-        ("a/aa", "7", "part 2"),
-        ("\u{1D11E}", "9", "part 1"),
-        ("\u{1D11F}", "part 0", "part 0"),
-        ("x/a", "part 0", "part 0"),
-        ("a/C/a", "part 1", "part 1"),
-        ("/A/c", "part 1", "part 1"),
-    ] {
-        let mut image = image(alloc, &volume, (0, 0))?;
+/// Names of which the second names a record that isn't in use, and the third has another sequence number.
+const STRAY: &[Named<'_>] = &[(b"A\0", 7), (b"n\0", 11), (b"s\0", 0x4_0000_0000_0007)];
+
+/// Record 0 is never patched.
+const NONE: Patch = (0, 0, 0);
+
+/// A path, a byte that is put into a record, and what the path and the directory that it names come to.
+type Case<'a> = (&'a str, Patch, &'a str, &'a str);
+
+/// Each path comes to what its row says.
+fn tell_all(rt: &impl Abort, alloc: Global, volume: &[u8], cases: &[Case<'_>]) -> Result<(), Fail> {
+    for (path, patch, number, directory) in cases {
+        let mut image = image(alloc, volume, *patch)?;
         let found = told(alloc, &mut image, path, false)?;
-        assert_eq!(rt; found.as_str(), number, "{path}");
+        assert_eq!(rt; found.as_str(), *number, "{path}");
         let found = told(alloc, &mut image, path, true)?;
-        assert_eq!(rt; found.as_str(), directory, "{path}");
+        assert_eq!(rt; found.as_str(), *directory, "{path}");
     }
     Ok(())
 }
+
+const PATHS: &[Case<'_>] = &[
+    ("", NONE, "5", "5"),
+    ("//", NONE, "5", "5"),
+    ("a", NONE, "6", "6"),
+    ("/a//", NONE, "6", "6"),
+    ("A", NONE, "7", "part 1"),
+    ("a//c/", NONE, "9", "part 2"),
+    ("a/A\u{61}", NONE, "9", "part 2"),
+    ("a/aa", NONE, "7", "part 2"),
+    ("\u{1D11E}", NONE, "9", "part 1"),
+    ("\u{1D11F}", NONE, "part 0", "part 0"),
+    ("x/a", NONE, "part 0", "part 0"),
+    ("a/C/a", NONE, "part 1", "part 1"),
+    ("/A/c", NONE, "part 1", "part 1"),
+];
+
+/// The root that is no directory, isn't in use, or tells another number; and without a table of names.
+const ROOTS: &[Case<'_>] = &[
+    ("/", (5, 0x16, 1), "5", "part 0"),
+    ("/", (5, 0, 0), "5", "part 0"),
+    ("/", (5, 0x2C, 6), "5", "C4 5"),
+    ("/", (10, 0, 0), "5", "5"),
+];
+
+#[test]
+fn paths_are_split_and_looked_up(rt: HostRuntime) -> Result<(), Fail> {
+    let volume = named(rt.alloc(), ROOT, BELOW)?;
+    tell_all(&rt, rt.alloc(), &volume, PATHS)?;
+    tell_all(&rt, rt.alloc(), &volume, ROOTS)
+}
+
+/// No record in use; another sequence number; an extension; another record's number; the same units before an entry that
+/// breaks a rule (its length is 9); a name that is only alike before it.
+const ENTRIES: &[Case<'_>] = &[
+    ("n", NONE, "C14 5", "C14 5"),
+    ("s", NONE, "C14 5", "C14 5"),
+    ("A", (7, 0x20, 5), "C14 5", "C14 5"),
+    ("A", (7, 0x2C, 6), "C4 7", "C4 7"),
+    ("A", (5, 216, 9), "7", "part 1"),
+    ("a", (5, 216, 9), "C13 5", "C13 5"),
+];
+
+/// No table of names, one of which less is initialised, one whose pairs aren't right; a root that is no directory, an
+/// extension, not in use, or tells another number, or that has no index; and a directory without one.
+const RECORDS: &[Case<'_>] = &[
+    ("A", (10, 0, 0), "C13 10", "C13 10"),
+    ("A", (10, 114, 1), "C13 10", "C13 10"),
+    ("A", (10, 128, 0x99), "C7 10", "C7 10"),
+    ("A", (5, 0x16, 1), "part 0", "part 0"),
+    ("A", (5, 0x20, 3), "part 0", "part 0"),
+    ("A", (5, 0, 0), "part 0", "part 0"),
+    ("A", (5, 0x2C, 6), "C4 5", "C4 5"),
+    ("A", (5, 56, 0x80), "C13 5", "C13 5"),
+    ("A/A", (7, 0x16, 3), "C13 7", "C13 7"),
+];
 
 #[test]
 fn damage_is_met_in_order(rt: HostRuntime) -> Result<(), Fail> {
-    let alloc = rt.alloc();
-    // A byte of the second entry's length, which no walk passes.
-    let second = (at(5, 56 + 48 + 16 + 88 + 8), 9);
-    let names: &[Named<'_>] = &[(b"A\0", 7), (b"n\0", 11), (b"s\0", 0x4_0000_0000_0007)];
-    let volume = named(alloc, names, BELOW)?;
-    for (name, patch, path, want) in [
-        ("no record in use", (0, 0), "n", "C14 5"),
-        ("another sequence number", (0, 0), "s", "C14 5"),
-        ("an extension", (at(7, 0x20), 5), "A", "C14 5"),
-        ("another record's number", (at(7, 0x2C), 6), "A", "C4 7"),
-        ("the same units before damage", second, "A", "7"),
-        ("alike before damage", second, "a", "C13 5"),
-        ("no table of names", (at(10, 0), 0), "A", "C13 10"),
-        (
-            "a table with less in it",
-            (at(10, 56 + 0x3A), 1),
-            "A",
-            "C13 10",
-        ),
-        ("pairs of the table", (at(10, 56 + 72), 0x99), "A", "C7 10"),
-        ("the root is no directory", (at(5, 0x16), 1), "A", "part 0"),
-        ("the root is an extension", (at(5, 0x20), 3), "A", "part 0"),
-        ("the root isn't in use", (at(5, 0), 0), "A", "part 0"),
-        (
-            "the root tells another number",
-            (at(5, 0x2C), 6),
-            "A",
-            "C4 5",
-        ),
-        ("the root has no index", (at(5, 56), 0x80), "A", "C13 5"),
-        ("a part of no directory", (at(7, 0x16), 1), "A/A", "part 1"),
-        (
-            "a directory without an index",
-            (at(7, 0x16), 3),
-            "A/A",
-            "C13 7",
-        ),
-    ] {
-        let mut image = image(alloc, &volume, patch)?;
-        let found = told(alloc, &mut image, path, false)?;
-        assert_eq!(rt; found.as_str(), want, "{name}");
-    }
-    Ok(())
+    let volume = named(rt.alloc(), STRAY, BELOW)?;
+    tell_all(&rt, rt.alloc(), &volume, ENTRIES)?;
+    tell_all(&rt, rt.alloc(), &volume, RECORDS)
 }
 
-#[test]
-fn the_root_is_read_where_a_directory_is_wanted(rt: HostRuntime) -> Result<(), Fail> {
-    let alloc = rt.alloc();
-    let volume = named(alloc, ROOT, BELOW)?;
-    for (patch, number, directory) in [
-        ((at(5, 0x16), 1), "5", "part 0"),
-        ((at(5, 0), 0), "5", "part 0"),
-        ((at(5, 0x2C), 6), "5", "C4 5"),
-        ((at(10, 0), 0), "5", "5"),
-    ] {
-        let mut image = image(alloc, &volume, patch)?;
-        let found = told(alloc, &mut image, "/", false)?;
-        assert_eq!(rt; found.as_str(), number);
-        let found = told(alloc, &mut image, "/", true)?;
-        assert_eq!(rt; found.as_str(), directory);
+/// What a path of a volume names.
+fn resolved(alloc: Global, image: &mut MemImage, path: &str) -> Result<String, Fail> {
+    let mut text = String::new(alloc);
+    match open_volume(alloc, image) {
+        Err(_) => text.push_str("no volume")?,
+        Ok(mut volume) => {
+            let answer = resolve(alloc, &mut volume, path);
+            text = text_of(alloc, answer)?;
+        }
     }
-    Ok(())
+    Ok(text)
 }
 
 #[test]
 fn each_read_of_a_path_failing_alone_is_a_read_fault(rt: HostRuntime) -> Result<(), Fail> {
     let alloc = rt.alloc();
     let bytes = named(alloc, ROOT, BELOW)?;
-    let mut whole = image(alloc, &bytes, (0, 0))?;
-    match open_volume(alloc, &mut whole) {
-        Err(_) => Err("a volume")?,
-        Ok(mut volume) => assert_eq!(rt; resolve(alloc, &mut volume, "a/c"), Ok(9)),
-    }
+    let mut whole = image(alloc, &bytes, NONE)?;
+    let found = resolved(alloc, &mut whole, "a/c")?;
+    assert_eq!(rt; found.as_str(), "9");
     let all = whole.inside.calls.made;
-    for failing in 3..=all {
-        let mut image = image(alloc, &bytes, (0, 0))?;
+    for failing in 3..all.saturating_add(1) {
+        let mut image = image(alloc, &bytes, NONE)?;
         image.inside.calls.fail(alloc, failing, Leaves::Before)?;
         let found = told(alloc, &mut image, "a/c", false)?;
         assert_eq!(rt; found.as_str(), "read fault");
