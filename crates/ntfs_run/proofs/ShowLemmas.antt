@@ -29,6 +29,7 @@ use Rattle.ntfs_show.specs.declared.owner_query.OwnerQuery.{OwnerQuery}
 use Rattle.ntfs_words.specs.declared.request.Ask.{Ask}
 use Rattle.ntfs_run.specs.Cluster.{ClusterRefuses, owner_lines, query_of}
 use Rattle.ntfs_run.specs.Info.{GeometryRefuses, RecordRefuses, image_lines}
+use Rattle.ntfs_run.specs.Ls.{ListRefuses}
 use Rattle.ntfs_run.specs.Outcome.{AttachRefuses, image_status, show_status, status_origin, volume_status}
 use Rattle.ntfs_run.specs.Show.{ShowRefuses, asks_geometry, image_printing, volume_printing}
 use Rattle.ntfs_show.specs.RecordInfo.{printing_after}
@@ -141,6 +142,12 @@ attach_record status.ReadFault is = tt
 attach_record status.NoMemory is = tt
 attach_record other is = absurd is
 
+attach_list : (fault : Status) → AttachRefuses fault → ListRefuses fault
+attach_list (status.Absent named.Image) is = tt
+attach_list status.ReadFault is = tt
+attach_list status.NoMemory is = tt
+attach_list other is = absurd is
+
 attach_cat : (fault : Status) → AttachRefuses fault → CatRefuses fault
 attach_cat (status.Absent named.Image) is = tt
 attach_cat status.ReadFault is = tt
@@ -157,6 +164,7 @@ attach_cluster other is = absurd is
 pub attach_refuses : (r : Request) (fault : Status) → AttachRefuses fault → ShowRefuses r fault
 attach_refuses (request.Info mft None image) fault is = attach_geometry fault is
 attach_refuses (request.Info mft (Some number) image) fault is = attach_record fault is
+attach_refuses (request.Ls all numbers classify recursive system dos path image) fault is = attach_list fault is
 attach_refuses (request.Cat place kind name image) fault is = attach_cat fault is
 attach_refuses (request.Cluster question image) fault is = attach_cluster fault is
 attach_refuses other fault is = tt
@@ -171,6 +179,17 @@ record_opening volume.WriteFault = tt
 record_opening volume.NoMemory = tt
 record_opening volume.Absent = tt
 record_opening volume.NoAttribute = tt
+
+list_opening : (fault : VolumeFault) → ListRefuses (volume_status fault)
+list_opening volume.NotNtfs = tt
+list_opening (volume.BadGeometry field value) = tt
+list_opening (volume.ImageShort len need) = tt
+list_opening (volume.Damaged rule number) = tt
+list_opening volume.ReadFault = tt
+list_opening volume.WriteFault = tt
+list_opening volume.NoMemory = tt
+list_opening volume.Absent = tt
+list_opening volume.NoAttribute = tt
 
 cat_opening : (fault : VolumeFault) → CatRefuses (volume_status fault)
 cat_opening volume.NotNtfs = tt
@@ -198,6 +217,7 @@ cluster_opening volume.NoAttribute = tt
 pub open_refuses : (r : Request) (fault : VolumeFault) → asks_geometry r ≡ false → ShowRefuses r (volume_status fault)
 open_refuses (request.Info mft None image) fault is = absurd cc
 open_refuses (request.Info mft (Some number) image) fault is = record_opening fault
+open_refuses (request.Ls all numbers classify recursive system dos path image) fault is = list_opening fault
 open_refuses (request.Cat place kind name image) fault is = cat_opening fault
 open_refuses (request.Cluster question image) fault is = cluster_opening fault
 open_refuses other fault is = tt
@@ -206,6 +226,7 @@ open_refuses other fault is = tt
 pub flush_refuses : (r : Request) → ShowRefuses r status.WriteFault
 flush_refuses (request.Info mft None image) = tt
 flush_refuses (request.Info mft (Some number) image) = tt
+flush_refuses (request.Ls all numbers classify recursive system dos path image) = tt
 flush_refuses (request.Cat place kind name image) = tt
 flush_refuses (request.Cluster question image) = tt
 flush_refuses other = tt

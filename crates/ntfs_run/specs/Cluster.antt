@@ -1,8 +1,7 @@
 -- `ntfscluster`: which clusters of a volume are owned, and by whom.
-use Rattle.std.specs.Prelude.{ℕ, Bool, true, false, List, Result, Ok, Err}
+use Rattle.std.specs.Prelude.{ℕ, List, Result, Ok}
 use Rattle.ntfs_base.specs.Frames.{refused_as, ◌>>=◌}
 use Rattle.ntfs_base.specs.declared.refusal.Named.TheVariants as named
-use Rattle.ntfs_base.specs.declared.refusal.UsageKind.TheVariants as usage
 use Rattle.ntfs_show.specs.Owners.{owners_outcome}
 use Rattle.ntfs_show.specs.declared.owner_query.OwnerQuery.{OwnerQuery}
 use Rattle.ntfs_show.specs.declared.owner_query.OwnerQuery.TheVariants as query
@@ -14,15 +13,10 @@ use Rattle.ntfs_run.specs.Place.{number_at}
 use Rattle.ntfs_run.specs.declared.status.Status.{Status}
 use Rattle.ntfs_run.specs.declared.status.Status.TheVariants as status
 
--- the questions that are answered already
-abbrev pub is_answered : Ask → Bool
-is_answered (ask.Clusters from to) = false
-is_answered other = true
-
 -- what is asked, with the number of the record that a path names
 unfoldable pub query_of : Ask → Opened → List ℕ → Result OwnerQuery Status
 query_of ask.Info volume image = Ok query.Info
-query_of (ask.Clusters from to) volume image = Err (status.Usage usage.Line)
+query_of (ask.Clusters from to) volume image = Ok (query.Clusters from to)
 query_of (ask.Number number) volume image = Ok (query.Number number)
 query_of (ask.Path path) volume image = do
   number ← number_at path volume image

@@ -1,14 +1,14 @@
 //! `ntfscluster`.
-ghost use Rattle.std.specs.Prelude.{◌≡◌, IfErr, true};
+ghost use Rattle.std.specs.Prelude.{◌≡◌, IfErr};
 ghost use Rattle.ntfs_base.specs.Frames.{Copies, Gives, IfTold, OnlyReads, Puts, refused_as};
 ghost use Rattle.ntfs_show.specs.Owners.{owners_outcome};
 ghost use Rattle.ntfs_volume.specs.Opened.{HasClusters};
-ghost use Rattle.ntfs_run.specs.Cluster.{ClusterRefuses, is_answered, owner_lines, query_of};
+ghost use Rattle.ntfs_run.specs.Cluster.{ClusterRefuses, owner_lines, query_of};
 ghost use Rattle.ntfs_run.specs.Outcome.{show_status, status_origin};
 
 use crate::place::number_at;
 use crate::status::Status;
-use ntfs_base::{Image, Sink, UsageKind};
+use ntfs_base::{Image, Sink};
 use ntfs_show::{OwnerQuery, show_owners};
 use ntfs_volume::Table;
 use ntfs_words::Ask;
@@ -22,8 +22,7 @@ pub fn print_owners<G: Image, O: Sink>(
     table: &Table,
     out: &mut O,
 ) -> Result<(), Status>
-    requires answered { is_answered ask.now ≡ true }
-    requires held { HasClusters (G.seen image.old).size table.now }
+    requires { HasClusters (G.seen image.old).size table.now }
     ensures puts { IfTold G.Image image.old (λ content.
         Puts status_origin (owner_lines ask.now table.now content) (O.seen out.old) result (O.seen out.new)) }
     ensures copies { Copies G.Image O.Sink status_origin image.old image.new out.old out.new result }
@@ -41,8 +40,7 @@ fn query_of<G: Image>(
     image: &mut G,
     table: &Table,
 ) -> Result<OwnerQuery, Status>
-    requires answered { is_answered ask.now ≡ true }
-    requires held { HasClusters (G.seen image.old).size table.now }
+    requires { HasClusters (G.seen image.old).size table.now }
     ensures gives { IfTold G.Image image.old (λ content.
         Gives status_origin (λ query. query) (query_of ask.now table.now content) result) }
     ensures refusal { IfErr result ClusterRefuses }
@@ -50,8 +48,9 @@ fn query_of<G: Image>(
 {
     match ask {
         Ask::Info => Ok(OwnerQuery::Info),
-        Ask::Clusters { .. } => Err(Status::Usage {
-            kind: UsageKind::Line,
+        Ask::Clusters { from, to } => Ok(OwnerQuery::Clusters {
+            from: *from,
+            to: *to,
         }),
         Ask::Number { number } => Ok(OwnerQuery::Number { number: *number }),
         Ask::Path { path } => {

@@ -10,9 +10,11 @@ ghost use Rattle.ntfs_run.specs.Shown.{of_file, of_volume};
 use crate::cat::{StreamRequest, put_stream};
 use crate::cluster::print_owners;
 use crate::info::{print_geometry, print_record};
+use crate::ls::print_list;
 use crate::outside::{attach_image, flush};
 use crate::status::Status;
 use ntfs_base::{Image, Shelf, Sink, UsageKind};
+use ntfs_show::ListOptions;
 use ntfs_volume::{Table, read_table};
 use ntfs_words::Request;
 use std::alloc::Global;
@@ -131,6 +133,26 @@ fn print_asked<G: Image, O: Sink>(
             number: Some(number),
             ..
         } => print_record(alloc, *number, image, table, out),
+        Request::Ls {
+            all,
+            numbers,
+            classify,
+            recursive,
+            system,
+            dos,
+            path,
+            ..
+        } => {
+            let options = ListOptions {
+                all: *all,
+                numbers: *numbers,
+                classify: *classify,
+                recursive: *recursive,
+                system: *system,
+                dos: *dos,
+            };
+            print_list(alloc, &options, path, image, table, out)
+        }
         Request::Cat {
             target,
             kind,
