@@ -20,11 +20,11 @@ use Rattle.ntfs_words.specs.declared.request.Request.TheVariants as request
 use Rattle.ntfs_words.specs.declared.request.WordsFault.{WordsFault}
 use Rattle.ntfs_words.specs.declared.request.WordsFault.TheVariants as words_fault
 use Rattle.ntfs_words.specs.declared.tool.Tool.{Tool}
-use Rattle.ntfs_words.specs.declared.request.Ask.TheVariants as ask
 use Rattle.ntfs_run.specs.Cat.{CatRefuses}
 use Rattle.ntfs_run.specs.Cluster.{ClusterRefuses}
-use Rattle.ntfs_run.specs.Command.{is_built, request_in, tool_in}
+use Rattle.ntfs_run.specs.Command.{is_standing, request_in, tool_in}
 use Rattle.ntfs_run.specs.Info.{GeometryRefuses, RecordRefuses}
+use Rattle.ntfs_run.specs.Ls.{ListRefuses}
 use Rattle.ntfs_run.specs.Make.{MakeRefuses}
 use Rattle.ntfs_base.proofs.SinkLemmas.{after_put-nil}
 use Rattle.ntfs_run.specs.Outcome.{Does, MayWriteFiles, Outcome, refused_with, status_of, status_origin, words_status}
@@ -53,6 +53,11 @@ record_other status.Done is = is
 record_other (status.Usage kind) is = is
 record_other other is = tt
 
+list_other : (fault : Status) → ListRefuses fault → IsOther fault
+list_other status.Done is = is
+list_other (status.Usage kind) is = is
+list_other other is = tt
+
 cat_other : (fault : Status) → CatRefuses fault → IsOther fault
 cat_other status.Done is = is
 cat_other (status.Usage kind) is = is
@@ -68,11 +73,12 @@ make_other status.Done is = is
 make_other (status.Usage kind) is = is
 make_other other is = tt
 
-is_other : (request : Request) (fault : Status) → is_built request ≡ true → RequestRefuses request fault → IsOther fault
+is_other : (request : Request) (fault : Status) → is_standing (tool_for request) ≡ true → RequestRefuses request fault → IsOther fault
 is_other (request.Info mft None image) fault built is = geometry_other fault is
 is_other (request.Info mft (Some number) image) fault built is = record_other fault is
+is_other (request.Ls all numbers classify recursive system dos path image) fault built is = list_other fault is
 is_other (request.Cat place kind name image) fault built is = cat_other fault is
-is_other (request.Cluster ask.Info image) fault built is = cluster_other fault is
+is_other (request.Cluster question image) fault built is = cluster_other fault is
 is_other (request.Make file seed clusters cluster) fault built is = make_other fault is
 is_other other fault built is = absurd cc
 
@@ -81,7 +87,7 @@ usage_of (words_fault.Usage k) kind is = let same : k ≡ kind = cc in ap words_
 usage_of words_fault.NoMemory kind is = absurd cc
 
 -- Usage comes only where the words are refused
-usage_only : (reading : Result Request WordsFault) (result : Result (Unit {0}) Status) → IfOk reading (λ request. is_built request ≡ true)
+usage_only : (reading : Result Request WordsFault) (result : Result (Unit {0}) Status) → IfOk reading (λ request. is_standing (tool_for request) ≡ true)
     → IfErr result (CanRefuse reading) → (kind : UsageKind) → status_of result ≡ status.Usage kind → reading ≡ Err (words_fault.Usage kind)
 usage_only reading (Ok x) built refusal kind is = absurd cc
 usage_only (Err k) (Err fault) built refusal kind is = ap Err (usage_of k kind (sym refusal ∙ is))
@@ -110,7 +116,7 @@ misused : (tool : Option Tool) (reading : Result Request WordsFault) (kind : Usa
 misused tool reading kind is = is
 
 listed : (tool : Option Tool) (reading : Result Request WordsFault) (result : Result (Unit {0}) Status)
-    → IfOk reading (λ request. is_built request ≡ true) → IfErr result (CanRefuse reading)
+    → IfOk reading (λ request. is_standing (tool_for request) ≡ true) → IfErr result (CanRefuse reading)
     → OnOk result (is_ok reading ≡ true) → IfErr reading (CanFail tool) → IfOk reading (λ request. tool ≡ Some (tool_for request))
     → CanAnswer tool reading (status_of result)
 listed tool (Err fault) (Ok x) built refusal taken kinds named = absurd cc
@@ -124,7 +130,7 @@ listed tool (Ok request) (Err fault) built refusal taken kinds named =
 
 -- ---- what the program's reply says further
 
-not_done : (reading : Result Request WordsFault) → IfOk reading (λ request. is_built request ≡ true) → CanRefuse reading status.Done → ⊥
+not_done : (reading : Result Request WordsFault) → IfOk reading (λ request. is_standing (tool_for request) ≡ true) → CanRefuse reading status.Done → ⊥
 not_done (Err (words_fault.Usage kind)) built is = absurd cc
 not_done (Err words_fault.NoMemory) built is = absurd cc
 not_done (Ok request) built is = is_other request status.Done built is
@@ -134,7 +140,7 @@ if_done status.Done P f = f refl
 if_done other P f = tt
 
 done_flushed : (reading : Result Request WordsFault) (result : Result (Unit {0}) Status) (P : Type 0)
-    → IfOk reading (λ request. is_built request ≡ true) → IfErr result (CanRefuse reading) → OnOk result P
+    → IfOk reading (λ request. is_standing (tool_for request) ≡ true) → IfErr result (CanRefuse reading) → OnOk result P
     → IfDone (status_of result) P
 done_flushed reading (Ok x) P built refusal flushed = flushed
 done_flushed reading (Err fault) P built refusal flushed = if_done fault P (λ is. absurd (not_done reading built (subst (CanRefuse reading) is refusal)))
@@ -161,7 +167,7 @@ puts_message line old new before after (Err put.NoMemory) is cause =
 settled : {S F O E T : Type 0} (s : shelf.Ghosts S F) (o : sink.Ghosts O) (e : sink.Ghosts E) (words : List (List ℕ))
     (reading : Result Request WordsFault) (old new : S) (out_old out_new : O) (err_old err_new : E) (result : Result (Unit {0}) Status)
     (put : Result T PutFault) → reading ≡ request_in words → IfErr reading (CanFail (tool_in words))
-    → IfOk reading (λ request. tool_in words ≡ Some (tool_for request)) → IfOk reading (λ request. is_built request ≡ true)
+    → IfOk reading (λ request. tool_in words ≡ Some (tool_for request)) → IfOk reading (λ request. is_standing (tool_for request) ≡ true)
     → IfFiles s old (λ files. Does (outcome_for reading files) (status_of result) (o.seen out_old) (o.seen out_new) (s.seen new).files)
     → IfFiles s old (λ files. LeavesFiles reading files (s.seen new).files)
     → MayWriteFiles s o (CanRefuse reading) old new out_old out_new result → OnOk result (is_ok reading ≡ true)
@@ -175,7 +181,7 @@ settled s o e words reading old new out_old out_new err_old err_new result put s
     λ told. subst (λ r. Does (outcome_for r (s.seen old).files) (status_of result) (o.seen out_old) (o.seen out_new) (s.seen new).files) same (does told) in
     let refusal = subst (λ r. IfErr result (CanRefuse r)) same runs.refusal in
     let read = subst (λ r. OnOk result (is_ok r ≡ true)) same taken in
-    let stands = subst (λ r. IfOk r (λ request. is_built request ≡ true)) same built in
+    let stands = subst (λ r. IfOk r (λ request. is_standing (tool_for request) ≡ true)) same built in
     record {
       does = done;
       line = λ told settled. ap (message_of words) ((done told).status settled);
@@ -269,7 +275,7 @@ unread s o e words old new out_old out_new err_old err_new result put is kinds d
 pub replies : {S F O E T : Type 0} (s : shelf.Ghosts S F) (o : sink.Ghosts O) (e : sink.Ghosts E) (words : List (List ℕ))
     (reading : Result Request WordsFault) (old new : S) (out_old out_new : O) (err_old err_new : E) (result : Result (Unit {0}) Status)
     (put : Result T PutFault) → Reads (request_in words) reading → IfErr reading (CanFail (tool_in words))
-    → IfOk reading (λ request. tool_in words ≡ Some (tool_for request)) → IfOk reading (λ request. is_built request ≡ true)
+    → IfOk reading (λ request. tool_in words ≡ Some (tool_for request)) → IfOk reading (λ request. is_standing (tool_for request) ≡ true)
     → IfFiles s old (λ files. Does (outcome_for reading files) (status_of result) (o.seen out_old) (o.seen out_new) (s.seen new).files)
     → IfFiles s old (λ files. LeavesFiles reading files (s.seen new).files)
     → MayWriteFiles s o (CanRefuse reading) old new out_old out_new result → OnOk result (is_ok reading ≡ true)

@@ -18,15 +18,18 @@ use Rattle.ntfs_volume.specs.Fault.{volume_origin}
 use Rattle.ntfs_volume.specs.Opened.{Opened, opened_of}
 use Rattle.ntfs_volume.specs.declared.fault.VolumeFault.{VolumeFault}
 use Rattle.ntfs_volume.specs.declared.fault.VolumeFault.TheVariants as volume
-use Rattle.ntfs_words.specs.declared.request.Ask.TheVariants as ask
 use Rattle.ntfs_words.specs.declared.request.Request.{Request}
 use Rattle.ntfs_words.specs.declared.request.Request.TheVariants as request
 use Rattle.ntfs_show.specs.Cat.{cat_outcome}
 use Rattle.ntfs_words.specs.declared.request.Target.{Target}
 use Rattle.ntfs_run.specs.Place.{number_meant}
 use Rattle.ntfs_run.specs.Cat.{CatRefuses, cat_bytes}
-use Rattle.ntfs_run.specs.Cluster.{ClusterRefuses}
+use Rattle.ntfs_show.specs.Owners.{owners_outcome}
+use Rattle.ntfs_show.specs.declared.owner_query.OwnerQuery.{OwnerQuery}
+use Rattle.ntfs_words.specs.declared.request.Ask.{Ask}
+use Rattle.ntfs_run.specs.Cluster.{ClusterRefuses, owner_lines, query_of}
 use Rattle.ntfs_run.specs.Info.{GeometryRefuses, RecordRefuses, image_lines}
+use Rattle.ntfs_run.specs.Ls.{ListRefuses}
 use Rattle.ntfs_run.specs.Outcome.{AttachRefuses, image_status, show_status, status_origin, volume_status}
 use Rattle.ntfs_run.specs.Show.{ShowRefuses, asks_geometry, image_printing, volume_printing}
 use Rattle.ntfs_show.specs.RecordInfo.{printing_after}
@@ -139,6 +142,12 @@ attach_record status.ReadFault is = tt
 attach_record status.NoMemory is = tt
 attach_record other is = absurd is
 
+attach_list : (fault : Status) → AttachRefuses fault → ListRefuses fault
+attach_list (status.Absent named.Image) is = tt
+attach_list status.ReadFault is = tt
+attach_list status.NoMemory is = tt
+attach_list other is = absurd is
+
 attach_cat : (fault : Status) → AttachRefuses fault → CatRefuses fault
 attach_cat (status.Absent named.Image) is = tt
 attach_cat status.ReadFault is = tt
@@ -155,8 +164,9 @@ attach_cluster other is = absurd is
 pub attach_refuses : (r : Request) (fault : Status) → AttachRefuses fault → ShowRefuses r fault
 attach_refuses (request.Info mft None image) fault is = attach_geometry fault is
 attach_refuses (request.Info mft (Some number) image) fault is = attach_record fault is
+attach_refuses (request.Ls all numbers classify recursive system dos path image) fault is = attach_list fault is
 attach_refuses (request.Cat place kind name image) fault is = attach_cat fault is
-attach_refuses (request.Cluster ask.Info image) fault is = attach_cluster fault is
+attach_refuses (request.Cluster question image) fault is = attach_cluster fault is
 attach_refuses other fault is = tt
 
 record_opening : (fault : VolumeFault) → RecordRefuses (volume_status fault)
@@ -169,6 +179,17 @@ record_opening volume.WriteFault = tt
 record_opening volume.NoMemory = tt
 record_opening volume.Absent = tt
 record_opening volume.NoAttribute = tt
+
+list_opening : (fault : VolumeFault) → ListRefuses (volume_status fault)
+list_opening volume.NotNtfs = tt
+list_opening (volume.BadGeometry field value) = tt
+list_opening (volume.ImageShort len need) = tt
+list_opening (volume.Damaged rule number) = tt
+list_opening volume.ReadFault = tt
+list_opening volume.WriteFault = tt
+list_opening volume.NoMemory = tt
+list_opening volume.Absent = tt
+list_opening volume.NoAttribute = tt
 
 cat_opening : (fault : VolumeFault) → CatRefuses (volume_status fault)
 cat_opening volume.NotNtfs = tt
@@ -196,16 +217,18 @@ cluster_opening volume.NoAttribute = tt
 pub open_refuses : (r : Request) (fault : VolumeFault) → asks_geometry r ≡ false → ShowRefuses r (volume_status fault)
 open_refuses (request.Info mft None image) fault is = absurd cc
 open_refuses (request.Info mft (Some number) image) fault is = record_opening fault
+open_refuses (request.Ls all numbers classify recursive system dos path image) fault is = list_opening fault
 open_refuses (request.Cat place kind name image) fault is = cat_opening fault
-open_refuses (request.Cluster ask.Info image) fault is = cluster_opening fault
+open_refuses (request.Cluster question image) fault is = cluster_opening fault
 open_refuses other fault is = tt
 
 -- of the output
 pub flush_refuses : (r : Request) → ShowRefuses r status.WriteFault
 flush_refuses (request.Info mft None image) = tt
 flush_refuses (request.Info mft (Some number) image) = tt
+flush_refuses (request.Ls all numbers classify recursive system dos path image) = tt
 flush_refuses (request.Cat place kind name image) = tt
-flush_refuses (request.Cluster ask.Info image) = tt
+flush_refuses (request.Cluster question image) = tt
 flush_refuses other = tt
 
 geometry_shows : (r : Request) (fault : Status) → asks_geometry r ≡ true → GeometryRefuses fault → ShowRefuses r fault
@@ -226,3 +249,15 @@ pub meant_bytes : (place : Target) (kind : ℕ) (name : List ℕ) (volume : Open
     → number_meant place volume image ≡ Ok number → cat_bytes place kind name volume image ≡ refused_as show_status (cat_outcome volume image number kind name)
 unfolding cat_bytes
 meant_bytes place kind name volume image number is = ap (λ r. r >>= (λ number. refused_as show_status (cat_outcome volume image number kind name))) is
+
+-- ---- the question about owners
+
+pub unasked_lines : (question : Ask) (volume : Opened) (image : List ℕ) (fault : Status)
+    → query_of question volume image ≡ Err fault → owner_lines question volume image ≡ Err fault
+unfolding owner_lines
+unasked_lines question volume image fault is = ap (λ r. r >>= (λ asks. refused_as show_status (owners_outcome volume image asks))) is
+
+pub asked_lines : (question : Ask) (volume : Opened) (image : List ℕ) (query : OwnerQuery)
+    → query_of question volume image ≡ Ok query → owner_lines question volume image ≡ refused_as show_status (owners_outcome volume image query)
+unfolding owner_lines
+asked_lines question volume image query is = ap (λ r. r >>= (λ asks. refused_as show_status (owners_outcome volume image asks))) is

@@ -1,15 +1,13 @@
 -- What the words of a command line ask of the tools that stand, or how they are refused. The first word names the tool.
 -- The rules are ours.
-use Rattle.std.specs.Prelude.{ℕ, Bool, true, false, List, Option, Result, Ok}
+use Rattle.std.specs.Prelude.{ℕ, Bool, true, false, List, Option, Result}
 use Rattle.std.specs.Option.{ok_or}
-use Rattle.ntfs_base.specs.Frames.{must, ◌>>=◌}
+use Rattle.ntfs_base.specs.Frames.{◌>>=◌}
 use Rattle.ntfs_base.specs.declared.refusal.UsageKind.TheVariants as usage
 use Rattle.ntfs_words.specs.Numbers.{only_if}
 use Rattle.ntfs_words.specs.Tool.{tool_of}
 use Rattle.ntfs_words.specs.Words.{asked}
-use Rattle.ntfs_words.specs.declared.request.Ask.TheVariants as ask
 use Rattle.ntfs_words.specs.declared.request.Request.{Request}
-use Rattle.ntfs_words.specs.declared.request.Request.TheVariants as request
 use Rattle.ntfs_words.specs.declared.request.WordsFault.{WordsFault}
 use Rattle.ntfs_words.specs.declared.request.WordsFault.TheVariants.{Usage}
 use Rattle.ntfs_words.specs.declared.tool.Tool.{Tool}
@@ -18,7 +16,7 @@ use Rattle.ntfs_words.specs.declared.tool.Tool.TheVariants.{Info, Ls, Cat, Clust
 -- a tool that stands; the word of another one names no tool yet
 abbrev pub is_standing : Tool → Bool
 is_standing Info = true
-is_standing Ls = false
+is_standing Ls = true
 is_standing Cat = true
 is_standing Cluster = true
 is_standing Cp = false
@@ -32,18 +30,8 @@ is_standing Trial = false
 abbrev pub tool_in : List (List ℕ) → Option Tool
 tool_in words = only_if is_standing (tool_of words)
 
--- what the tools that stand do already
-abbrev pub is_built : Request → Bool
-is_built (request.Info mft number image) = true
-is_built (request.Cat place kind name image) = true
-is_built (request.Cluster ask.Info image) = true
-is_built (request.Make file seed clusters cluster) = true
-is_built other = false
-
 -- what a command line asks for
 unfoldable pub request_in : List (List ℕ) → Result Request WordsFault
 request_in words = do
   tool ← ok_or (tool_in words) (Usage usage.Tool)
-  request ← asked words
-  built ← must (is_built request) (Usage usage.Line)
-  Ok request
+  asked words

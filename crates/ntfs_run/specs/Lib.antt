@@ -7,6 +7,7 @@ pub mod Code
 pub mod Outcome
 pub mod Info
 pub mod Place
+pub mod Ls
 pub mod Cat
 pub mod Cluster
 pub mod Shown

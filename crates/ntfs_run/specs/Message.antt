@@ -126,6 +126,7 @@ tool_word (Some tool) = tool_name tool
 -- the name of a host file of a request
 abbrev pub file_named : Request → Named → List ℕ
 file_named (request.Info mft number image) named.Image = image
+file_named (request.Ls all numbers classify recursive system dos path image) named.Image = image
 file_named (request.Cat place kind name image) named.Image = image
 file_named (request.Cluster ask image) named.Image = image
 file_named (request.Make file seed clusters cluster) named.Output = file

@@ -2,14 +2,13 @@
 use Rattle.std.specs.Prelude.{ℕ, Bool, true, false, List, Some, None, if◌then◌else◌}
 use Rattle.ntfs_base.specs.declared.refusal.UsageKind.TheVariants as usage
 use Rattle.ntfs_show.specs.Printing.{Printing, printing_of, stops}
-use Rattle.ntfs_show.specs.declared.owner_query.OwnerQuery.TheVariants as owner_query
 use Rattle.ntfs_volume.specs.Opened.{Opened}
-use Rattle.ntfs_words.specs.declared.request.Ask.TheVariants as ask
 use Rattle.ntfs_words.specs.declared.request.Request.{Request}
 use Rattle.ntfs_words.specs.declared.request.Request.TheVariants as request
 use Rattle.ntfs_run.specs.Cat.{CatRefuses, cat_bytes, stream_name}
 use Rattle.ntfs_run.specs.Cluster.{ClusterRefuses, owner_lines}
 use Rattle.ntfs_run.specs.Info.{GeometryRefuses, RecordRefuses, image_lines, record_lines}
+use Rattle.ntfs_run.specs.Ls.{ListRefuses, list_lines}
 use Rattle.ntfs_run.specs.Shown.{of_volume}
 use Rattle.ntfs_run.specs.declared.status.Status.{Status}
 use Rattle.ntfs_run.specs.declared.status.Status.TheVariants as status
@@ -22,16 +21,26 @@ asks_geometry other = false
 -- the requests that print
 abbrev pub is_shown : Request → Bool
 is_shown (request.Info mft number image) = true
+is_shown (request.Ls all numbers classify recursive system dos path image) = true
 is_shown (request.Cat place kind name image) = true
-is_shown (request.Cluster ask.Info image) = true
+is_shown (request.Cluster question image) = true
 is_shown other = false
 
 -- what is printed of an opened volume, whose image has these bytes. No other request is taken
 unfoldable pub volume_printing : Request → Opened → List ℕ → Printing Status
 volume_printing (request.Info mft (Some number) image) volume bytes = record_lines number volume bytes
+volume_printing (request.Ls all numbers classify recursive system dos path image) volume bytes =
+    list_lines (record {
+      all = all;
+      numbers = numbers;
+      classify = classify;
+      recursive = recursive;
+      system = system;
+      dos = dos;
+    }) path volume bytes
 volume_printing (request.Cat place kind name image) volume bytes =
     printing_of (cat_bytes place kind (stream_name name) volume bytes)
-volume_printing (request.Cluster ask.Info image) volume bytes = printing_of (owner_lines owner_query.Info volume bytes)
+volume_printing (request.Cluster question image) volume bytes = printing_of (owner_lines question volume bytes)
 volume_printing other volume bytes = stops (status.Usage usage.Tool)
 
 -- what is printed of an image of these bytes
@@ -44,6 +53,7 @@ image_printing request bytes =
 abbrev pub ShowRefuses : Request → Status → Type 0
 ShowRefuses (request.Info mft None image) fault = GeometryRefuses fault
 ShowRefuses (request.Info mft (Some number) image) fault = RecordRefuses fault
+ShowRefuses (request.Ls all numbers classify recursive system dos path image) fault = ListRefuses fault
 ShowRefuses (request.Cat place kind name image) fault = CatRefuses fault
-ShowRefuses (request.Cluster ask.Info image) fault = ClusterRefuses fault
+ShowRefuses (request.Cluster question image) fault = ClusterRefuses fault
 ShowRefuses other fault = Unit {0}

@@ -1,8 +1,8 @@
 //! The top call: from the words of a command line to a status, over whatever stands outside.
 ghost use Rattle.std.specs.Prelude.{◌≡◌, [], true, IfOk, OnOk, is_ok, map, string_bytes};
 ghost use Rattle.ntfs_base.specs.Frames.{IfFiles};
-ghost use Rattle.ntfs_words.specs.Answers.{HasRanges};
-ghost use Rattle.ntfs_run.specs.Command.{is_built};
+ghost use Rattle.ntfs_words.specs.Answers.{HasRanges, tool_for};
+ghost use Rattle.ntfs_run.specs.Command.{is_standing};
 ghost use Rattle.ntfs_run.specs.Outcome.{Does, MayWriteFiles, status_of};
 ghost use Rattle.ntfs_run.specs.Reply.{KeepsInput, LeavesFiles, CanRefuse, Replies, KeepsShelf, outcome_for};
 
@@ -48,7 +48,7 @@ fn answer<S: Shelf, O: Sink>(
 ) -> Result<(), Status>
     requires attached { (S.seen shelf.old).attached ≡ [] }
     requires ranges { IfOk request.now HasRanges }
-    requires built { IfOk request.now (λ request. is_built request ≡ true) }
+    requires stands { IfOk request.now (λ request. is_standing (tool_for request) ≡ true) }
     ensures does { IfFiles S.Shelf shelf.old (λ files. Does (outcome_for request.now files)
         (status_of result) (O.seen out.old) (O.seen out.new) (S.seen shelf.new).files) }
     ensures left { IfFiles S.Shelf shelf.old (λ files. LeavesFiles request.now files (S.seen shelf.new).files) }
@@ -59,6 +59,9 @@ fn answer<S: Shelf, O: Sink>(
     match request {
         Err(fault) => Err(Status::from(*fault)),
         Ok(request @ Request::Info { image, .. }) => {
+            show(alloc, request, image.as_str(), shelf, out)
+        }
+        Ok(request @ Request::Ls { image, .. }) => {
             show(alloc, request, image.as_str(), shelf, out)
         }
         Ok(request @ Request::Cat { image, .. }) => {

@@ -6,6 +6,7 @@ mod cat;
 mod cluster;
 mod command;
 mod info;
+mod ls;
 mod make;
 mod message;
 mod outside;

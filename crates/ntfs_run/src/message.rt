@@ -316,6 +316,7 @@ fn file_named<'a>(request: &'a Request, file: Named) -> &'a str
 {
     match (request, file) {
         (Request::Info { image, .. }, Named::Image) => image.as_str(),
+        (Request::Ls { image, .. }, Named::Image) => image.as_str(),
         (Request::Cat { image, .. }, Named::Image) => image.as_str(),
         (Request::Cluster { image, .. }, Named::Image) => image.as_str(),
         (Request::Make { file, .. }, Named::Output) => file.as_str(),

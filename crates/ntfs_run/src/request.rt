@@ -2,10 +2,10 @@
 ghost use Rattle.std.specs.Prelude.{◌≡◌, IfErr, IfOk, Some, map, string_bytes, true};
 ghost use Rattle.ntfs_words.specs.Answers.{CanFail, HasRanges, tool_for};
 ghost use Rattle.ntfs_words.specs.Line.{Reads};
-ghost use Rattle.ntfs_run.specs.Command.{is_built, is_standing, request_in, tool_in};
+ghost use Rattle.ntfs_run.specs.Command.{is_standing, request_in, tool_in};
 
 use ntfs_base::UsageKind;
-use ntfs_words::{Ask, Request, Tool, WordsFault, read_words, tool_of};
+use ntfs_words::{Request, Tool, WordsFault, read_words, tool_of};
 use std::alloc::Global;
 
 /// The tool that the first word names, of those that stand.
@@ -22,7 +22,7 @@ fn is_standing(tool: Tool) -> bool
 {
     match tool {
         Tool::Info => true,
-        Tool::Ls => false,
+        Tool::Ls => true,
         Tool::Cat => true,
         Tool::Cluster => true,
         Tool::Cp => false,
@@ -34,19 +34,6 @@ fn is_standing(tool: Tool) -> bool
     }
 }
 
-/// What the tools that stand do already.
-fn is_built(request: &Request) -> bool
-    ensures { result ≡ is_built request.now }
-{
-    match request {
-        Request::Info { .. } => true,
-        Request::Cat { .. } => true,
-        Request::Cluster { ask: Ask::Info, .. } => true,
-        Request::Make { .. } => true,
-        _ => false,
-    }
-}
-
 /// Reads the words of a command line: what they ask for, or why they are refused.
 #[tactic(auto, unfolding(crate::specs::Command::request_in))]
 pub fn read_request(alloc: Global, words: &[String]) -> Result<Request, WordsFault>
@@ -54,18 +41,12 @@ pub fn read_request(alloc: Global, words: &[String]) -> Result<Request, WordsFau
     ensures ranges { IfOk result HasRanges }
     ensures kinds { IfErr result (CanFail (tool_in (map string_bytes words.now))) }
     ensures tool { IfOk result (λ request. tool_in (map string_bytes words.now) ≡ Some (tool_for request)) }
-    ensures built { IfOk result (λ request. is_built request ≡ true) }
+    ensures stands { IfOk result (λ request. is_standing (tool_for request) ≡ true) }
 {
     if tool_in(words).is_none() {
         return Err(WordsFault::Usage {
             kind: UsageKind::Tool,
         });
     }
-    let request = read_words(alloc, words)?;
-    if !is_built(&request) {
-        return Err(WordsFault::Usage {
-            kind: UsageKind::Line,
-        });
-    }
-    Ok(request)
+    read_words(alloc, words)
 }

@@ -10,12 +10,13 @@ ghost use Rattle.ntfs_run.specs.Shown.{of_file, of_volume};
 use crate::cat::{StreamRequest, put_stream};
 use crate::cluster::print_owners;
 use crate::info::{print_geometry, print_record};
+use crate::ls::print_list;
 use crate::outside::{attach_image, flush};
 use crate::status::Status;
 use ntfs_base::{Image, Shelf, Sink, UsageKind};
-use ntfs_show::OwnerQuery;
+use ntfs_show::ListOptions;
 use ntfs_volume::{Table, read_table};
-use ntfs_words::{Ask, Request};
+use ntfs_words::Request;
 use std::alloc::Global;
 
 /// Prints what a request asks about the image of a name, and flushes the output.
@@ -132,6 +133,26 @@ fn print_asked<G: Image, O: Sink>(
             number: Some(number),
             ..
         } => print_record(alloc, *number, image, table, out),
+        Request::Ls {
+            all,
+            numbers,
+            classify,
+            recursive,
+            system,
+            dos,
+            path,
+            ..
+        } => {
+            let options = ListOptions {
+                all: *all,
+                numbers: *numbers,
+                classify: *classify,
+                recursive: *recursive,
+                system: *system,
+                dos: *dos,
+            };
+            print_list(alloc, &options, path, image, table, out)
+        }
         Request::Cat {
             target,
             kind,
@@ -145,9 +166,7 @@ fn print_asked<G: Image, O: Sink>(
             };
             put_stream(alloc, &stream, image, table, out)
         }
-        Request::Cluster { ask: Ask::Info, .. } => {
-            print_owners(alloc, OwnerQuery::Info, image, table, out)
-        }
+        Request::Cluster { ask, .. } => print_owners(alloc, ask, image, table, out),
         _ => Err(Status::Usage {
             kind: UsageKind::Tool,
         }),

@@ -1,8 +1,8 @@
 //! `ntfscluster` over a volume that `ntfsmake` makes: 1,024 clusters of 4,096 bytes.
 use crate::case::{Case, Image, NO_FAULT, all_answer, all_follow, run_over};
-use crate::statuses::{COMBINATION, LINE, NO_IMAGE, NUMBER, damage_of};
+use crate::statuses::{COMBINATION, LINE, NO_IMAGE, NUMBER, damage_of, no_record};
 use crate::volume::BOOT_LEN;
-use ntfs_base::{MemShelf, Rule};
+use ntfs_base::{MemShelf, Missing, Rule};
 use ntfs_run::Status;
 use std::test::Fail;
 
@@ -32,6 +32,75 @@ fn clusters_of_a_made_volume_are_counted(rt: HostRuntime) -> Result<(), Fail> {
     all_follow(&rt, alloc, &mut shelf, &cases)
 }
 
+const OF_MFT: &[u8] = b"record 0 0x80 \"\" vcn 0 lcn 3 length 8\n\
+    record 28 0x80 \"\" vcn 8 lcn 68 length 8\n";
+
+/// A hole of two clusters, a cluster, and a hole.
+const OF_SPARSE: &[u8] = b"record 18 0x80 \"\" vcn 0 lcn hole length 2\n\
+    record 18 0x80 \"\" vcn 2 lcn 77 length 1\n\
+    record 18 0x80 \"\" vcn 3 lcn hole length 1\n";
+
+/// The runs of a record by its number and by its path.
+#[test]
+fn runs_of_a_record_are_printed(rt: HostRuntime) -> Result<(), Fail> {
+    let alloc = rt.alloc();
+    let mut shelf = MemShelf::new(alloc);
+    let empty = Image::of(0);
+    let table = Case::puts(&[], empty, OF_MFT);
+    let sparse = Case::puts(&[], empty, OF_SPARSE);
+    let missing = Case::refuses(
+        &[],
+        empty,
+        no_record(12),
+        7,
+        "ntfscluster: not found: record 12\n",
+    );
+    let cases = [
+        Case::puts(&MAKE, empty, b""),
+        table.with_words(&["ntfscluster", "-I", "0", "v"]),
+        table.with_words(&["ntfscluster", "--inode=0", "v"]),
+        table.with_words(&["ntfscluster", "-F", "/$MFT", "v"]),
+        sparse.with_words(&["ntfscluster", "-I18", "v"]),
+        sparse.with_words(&["ntfscluster", "v", "--filename", "Sparse.bin"]),
+        sparse
+            .with_output(b"")
+            .with_words(&["ntfscluster", "-I", "16", "v"]),
+        missing.with_words(&["ntfscluster", "-I", "12", "v"]),
+        missing
+            .with_refusal(NO_PART, "ntfscluster: not found: path part 1\n")
+            .with_words(&["ntfscluster", "-F", "/Dir/none", "v"]),
+    ];
+    all_follow(&rt, alloc, &mut shelf, &cases)
+}
+
+/// Each cluster of a range that has an owner; 512 is the bad one.
+#[test]
+fn owners_of_a_range_are_printed(rt: HostRuntime) -> Result<(), Fail> {
+    let alloc = rt.alloc();
+    let mut shelf = MemShelf::new(alloc);
+    let empty = Image::of(0);
+    let nothing = Case::puts(&[], empty, b"");
+    let cases = [
+        nothing.with_words(&MAKE),
+        nothing
+            .with_output(
+                b"cluster 0 record 7 0x80 \"\" vcn 0\ncluster 1 record 7 0x80 \"\" vcn 1\n\
+                cluster 3 record 0 0x80 \"\" vcn 0\n",
+            )
+            .with_words(&["ntfscluster", "-c", "0-3", "v"]),
+        nothing
+            .with_output(b"cluster 512 record 8 0x80 \"$Bad\" vcn 512\n")
+            .with_words(&["ntfscluster", "--cluster=500-0520", "v"]),
+        nothing.with_words(&["ntfscluster", "-c2-2", "v"]),
+        nothing.with_words(&["ntfscluster", "-c", "1024-18446744073709551615", "v"]),
+    ];
+    all_follow(&rt, alloc, &mut shelf, &cases)
+}
+
+const NO_PART: Status = Status::NotFound {
+    what: Missing::Part { index: 1 },
+};
+
 #[test]
 fn words_and_images_are_refused(rt: HostRuntime) -> Result<(), Fail> {
     let empty = Image::of(0);
@@ -49,6 +118,7 @@ fn words_and_images_are_refused(rt: HostRuntime) -> Result<(), Fail> {
         both.with_words(&["ntfscluster", "v"]),
         both.with_words(&["ntfscluster", "-i", "-c", "1-x", "v"]),
         number.with_words(&["ntfscluster", "-c", "1-x", "v"]),
+        number.with_words(&["ntfscluster", "-c", "2-1", "v"]),
         number.with_words(&["ntfscluster", "-I", "0X1", "v"]),
         absent.with_words(&["ntfscluster", "-i", "w"]),
         Case::refuses(

@@ -179,7 +179,13 @@ fn records_are_printed(rt: HostRuntime) -> Result<(), Fail> {
     let mut shelf = MemShelf::new(alloc);
     let empty = Image::of(0);
     let record = Case::puts(&[], empty, RECORD_16);
-    let missing = Case::refuses(&[], empty, no_record(12), 7, "ntfsinfo: not found: record 12\n");
+    let missing = Case::refuses(
+        &[],
+        empty,
+        no_record(12),
+        7,
+        "ntfsinfo: not found: record 12\n",
+    );
     let cases = [
         Case::puts(&MAKE, empty, b""),
         record.with_words(&["ntfsinfo", "-i", "16", "v"]),

@@ -14,6 +14,8 @@ mod info;
 #[cfg(test)]
 mod large;
 #[cfg(test)]
+mod ls;
+#[cfg(test)]
 mod made;
 #[cfg(test)]
 mod make;

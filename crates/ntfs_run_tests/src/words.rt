@@ -182,7 +182,13 @@ fn ntfscat_takes_paths(rt: HostRuntime) -> Result<(), Fail> {
     let empty = Image::of(0);
     let hello = Case::puts(&[], empty, b"hello, ntfs\n");
     let nothing = hello.with_output(b"");
-    let missing = Case::refuses(&[], empty, no_part(0), 7, "ntfscat: not found: path part 0\n");
+    let missing = Case::refuses(
+        &[],
+        empty,
+        no_part(0),
+        7,
+        "ntfscat: not found: path part 0\n",
+    );
     let below = missing.with_refusal(no_part(1), "ntfscat: not found: path part 1\n");
     let no_stream = missing.with_refusal(NO_STREAM, "ntfscat: not found: stream\n");
     let cases = [
@@ -191,14 +197,24 @@ fn ntfscat_takes_paths(rt: HostRuntime) -> Result<(), Fail> {
         hello.with_words(&["ntfscat", "v", "resident.txt"]),
         hello.with_words(&["ntfscat", "v", "//resident.txt/"]),
         hello.with_words(&["ntfscat", "v", "RESIDENT.txt"]),
-        hello.with_output(FILE_NAME).with_words(&["ntfscat", "-a", "0x30", "v", "/resident.txt"]),
-        hello.with_output(BLOCKS).with_words(&["ntfscat", "-a", "0xB0", "-n", "$I30", "v", "/"]),
+        hello
+            .with_output(FILE_NAME)
+            .with_words(&["ntfscat", "-a", "0x30", "v", "/resident.txt"]),
+        hello
+            .with_output(BLOCKS)
+            .with_words(&["ntfscat", "-a", "0xB0", "-n", "$I30", "v", "/"]),
         nothing.with_words(&["ntfscat", "v", "/empty.bin"]),
         nothing.with_words(&["ntfscat", "v", "/long name.txt"]),
         nothing.with_words(&["ntfscat", "v", "/longna~1.txt"]),
-        hello.with_output(b"inner\n").with_words(&["ntfscat", "v", "/Dir/inner.txt"]),
-        hello.with_output(b"A\n").with_words(&["ntfscat", "v", "/A.txt"]),
-        hello.with_output(b"a\n").with_words(&["ntfscat", "v", "/a.txt"]),
+        hello
+            .with_output(b"inner\n")
+            .with_words(&["ntfscat", "v", "/Dir/inner.txt"]),
+        hello
+            .with_output(b"A\n")
+            .with_words(&["ntfscat", "v", "/A.txt"]),
+        hello
+            .with_output(b"a\n")
+            .with_words(&["ntfscat", "v", "/a.txt"]),
         missing.with_words(&["ntfscat", "v", "/none"]),
         missing.with_words(&["ntfscat", "v", "none/resident.txt"]),
         below.with_words(&["ntfscat", "v", "/Dir/none"]),
