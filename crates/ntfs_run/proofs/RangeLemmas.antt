@@ -1,5 +1,5 @@
 -- Numbers that are in the ranges of the words are those of a volume.
-use Rattle.std.proofs.Common.{◌≡◌, ◌&&◌, ◌==◌, ℕ, Bool, true, false, refl, sym, ◌∙◌, nat_le, if◌then◌else◌, IfOk, Result, Ok, Err}
+use Rattle.std.proofs.Common.{◌≡◌, ◌&&◌, ◌==◌, ℕ, Bool, true, false, refl, ◌∙◌, nat_le, if◌then◌else◌, IfOk, Result, Ok}
 use Rattle.std.proofs.lemmas.Bool.{leb-true}
 use Rattle.std.specs.Prelude.{List}
 use Rattle.ntfs_make.specs.Shape.{IsShape, is_cluster_size, shape_of}

@@ -1,10 +1,10 @@
 -- What the answer of a tool says of the program's reply.
-use Rattle.std.proofs.Common.{◌≡◌, ◌⊎◌, ℕ, true, List, [], refl, sym, ap, subst, ◌∙◌, Result, Ok, Err, Option, Some, None}
+use Rattle.std.proofs.Common.{◌≡◌, ℕ, true, List, [], refl, sym, ap, subst, ◌∙◌, Result, Ok, Err, Option, Some, None}
 use Rattle.std.proofs.Common.{IfErr, IfOk, OnOk, is_ok, inl, inr, length, arith}
 use Rattle.std.proofs.Math.Seq.{take-nil}
 use Rattle.std.proofs.lemmas.List.{take_all}
 use Rattle.ntfs_base.specs.Causes.{SinkCause}
-use Rattle.ntfs_base.specs.Frames.{Because, IfFiles, IsSettled, PutsPrefix}
+use Rattle.ntfs_base.specs.Frames.{Because, IfFiles, PutsPrefix}
 use Rattle.ntfs_base.specs.Shelf.{Files}
 use Rattle.ntfs_base.specs.Sink.{Put, SinkState, after_put}
 use Rattle.ntfs_base.specs.declared.fault.PutFault.{PutFault}

@@ -1,11 +1,10 @@
 -- What the tools that only show print, of the image that is there or not, and of its volume.
-use Rattle.std.proofs.Common.{◌≡◌, ℕ, Bool, true, false, List, refl, sym, ap, subst, ◌∙◌, arith, Result, Ok, Err, Option, Some, None, IfErr, ok_or}
+use Rattle.std.proofs.Common.{◌≡◌, ℕ, true, false, List, refl, sym, ap, subst, ◌∙◌, arith, Result, Ok, Err, Option, Some, None, IfErr, ok_or}
 use Rattle.std.proofs.lemmas.Result.{IfErr-weaker}
 use Rattle.std.specs.Option.{option_map}
 use Rattle.ntfs_base.specs.Frames.{IsSettled, refused_as, ◌>>=◌}
 use Rattle.ntfs_base.specs.Shelf.{Files, file_of}
 use Rattle.ntfs_base.specs.Sink.{SinkState, after_put}
-use Rattle.ntfs_base.specs.declared.refusal.Missing.TheVariants as missing
 use Rattle.ntfs_base.specs.declared.refusal.Named.TheVariants as named
 use Rattle.ntfs_base.proofs.FramesLemmas.{gives_as}
 use Rattle.ntfs_base.proofs.SinkLemmas.{after_put-nil}
@@ -30,7 +29,7 @@ use Rattle.ntfs_words.specs.declared.request.Ask.{Ask}
 use Rattle.ntfs_run.specs.Cluster.{ClusterRefuses, owner_lines, query_of}
 use Rattle.ntfs_run.specs.Info.{GeometryRefuses, RecordRefuses, image_lines}
 use Rattle.ntfs_run.specs.Ls.{ListRefuses}
-use Rattle.ntfs_run.specs.Outcome.{AttachRefuses, image_status, show_status, status_origin, volume_status}
+use Rattle.ntfs_run.specs.Outcome.{image_status, show_status, status_origin, volume_status}
 use Rattle.ntfs_run.specs.Show.{ShowRefuses, asks_geometry, image_printing, volume_printing}
 use Rattle.ntfs_show.specs.RecordInfo.{printing_after}
 use Rattle.ntfs_show.specs.Fault.{show_origin}
@@ -40,7 +39,6 @@ use Rattle.ntfs_run.specs.Shown.{of_file, of_volume, with_status}
 use Rattle.ntfs_run.specs.declared.status.Status.{Status}
 use Rattle.ntfs_run.specs.declared.status.Status.TheVariants as status
 use Rattle.ntfs_run.proofs.CatLemmas.{volume-origin}
-use Rattle.ntfs_run.proofs.ToolLemmas.{prints_of}
 
 -- ---- nothing was printed
 
@@ -130,45 +128,6 @@ opened_printing r bytes is = rw is refl
 
 -- ---- refusals
 
-attach_geometry : (fault : Status) → AttachRefuses fault → GeometryRefuses fault
-attach_geometry (status.Absent named.Image) is = tt
-attach_geometry status.ReadFault is = tt
-attach_geometry status.NoMemory is = tt
-attach_geometry other is = absurd is
-
-attach_record : (fault : Status) → AttachRefuses fault → RecordRefuses fault
-attach_record (status.Absent named.Image) is = tt
-attach_record status.ReadFault is = tt
-attach_record status.NoMemory is = tt
-attach_record other is = absurd is
-
-attach_list : (fault : Status) → AttachRefuses fault → ListRefuses fault
-attach_list (status.Absent named.Image) is = tt
-attach_list status.ReadFault is = tt
-attach_list status.NoMemory is = tt
-attach_list other is = absurd is
-
-attach_cat : (fault : Status) → AttachRefuses fault → CatRefuses fault
-attach_cat (status.Absent named.Image) is = tt
-attach_cat status.ReadFault is = tt
-attach_cat status.NoMemory is = tt
-attach_cat other is = absurd is
-
-attach_cluster : (fault : Status) → AttachRefuses fault → ClusterRefuses fault
-attach_cluster (status.Absent named.Image) is = tt
-attach_cluster status.ReadFault is = tt
-attach_cluster status.NoMemory is = tt
-attach_cluster other is = absurd is
-
--- of the image
-pub attach_refuses : (r : Request) (fault : Status) → AttachRefuses fault → ShowRefuses r fault
-attach_refuses (request.Info mft None image) fault is = attach_geometry fault is
-attach_refuses (request.Info mft (Some number) image) fault is = attach_record fault is
-attach_refuses (request.Ls all numbers classify recursive system dos path image) fault is = attach_list fault is
-attach_refuses (request.Cat place kind name image) fault is = attach_cat fault is
-attach_refuses (request.Cluster question image) fault is = attach_cluster fault is
-attach_refuses other fault is = tt
-
 record_opening : (fault : VolumeFault) → RecordRefuses (volume_status fault)
 record_opening volume.NotNtfs = tt
 record_opening (volume.BadGeometry field value) = tt
@@ -221,15 +180,6 @@ open_refuses (request.Ls all numbers classify recursive system dos path image) f
 open_refuses (request.Cat place kind name image) fault is = cat_opening fault
 open_refuses (request.Cluster question image) fault is = cluster_opening fault
 open_refuses other fault is = tt
-
--- of the output
-pub flush_refuses : (r : Request) → ShowRefuses r status.WriteFault
-flush_refuses (request.Info mft None image) = tt
-flush_refuses (request.Info mft (Some number) image) = tt
-flush_refuses (request.Ls all numbers classify recursive system dos path image) = tt
-flush_refuses (request.Cat place kind name image) = tt
-flush_refuses (request.Cluster question image) = tt
-flush_refuses other = tt
 
 geometry_shows : (r : Request) (fault : Status) → asks_geometry r ≡ true → GeometryRefuses fault → ShowRefuses r fault
 geometry_shows (request.Info mft None image) fault is refused = refused

@@ -1,6 +1,6 @@
 -- What the tools share: refusals with their causes, and files that are released.
-use Rattle.std.proofs.Common.{◌≡◌, ◌≤◌, ℕ, Bool, true, false, List, [], refl, sym, ap, subst, ◌∙◌, inr, arith}
-use Rattle.std.proofs.Common.{Result, Ok, Err, Option, Some, None, IfErr, OnOk, ok_or}
+use Rattle.std.proofs.Common.{◌≡◌, ◌≤◌, ℕ, Bool, true, false, List, refl, sym, ap, subst, ◌∙◌, arith}
+use Rattle.std.proofs.Common.{Result, Ok, Err, IfErr, OnOk}
 use Rattle.std.proofs.lemmas.Result.{IfErr-weaker}
 use Rattle.ntfs_base.specs.Causes.{HaveNotFallen, Rose}
 use Rattle.ntfs_base.specs.Frames.{Because, Copies, IsSettled, Origin, content, reading, writing, memory}
@@ -13,8 +13,8 @@ use Rattle.ntfs_base.specs.declared.shelf.Shelf as shelf
 use Rattle.ntfs_base.specs.declared.sink.Sink as sink
 use Rattle.ntfs_base.proofs.AttachLemmas.{Rose-added, after_release-attached, has_name-attached}
 use Rattle.ntfs_base.proofs.SinkLemmas.{after_put-nil}
-use Rattle.ntfs_show.specs.Printing.{Printing, Prints, end_of, printing_of}
-use Rattle.ntfs_run.specs.Outcome.{Does, Outcome, MayWriteFiles, OnlyShows, refused_with, shows, status_of, status_origin}
+use Rattle.ntfs_show.specs.Printing.{Prints, end_of, printing_of}
+use Rattle.ntfs_run.specs.Outcome.{Does, Outcome, OnlyShows, refused_with, status_origin}
 use Rattle.ntfs_run.specs.declared.status.Status.{Status}
 
 -- ---- refusals
@@ -42,10 +42,6 @@ refused_ok over (Err fault) x is = absurd cc
 pub must_ok : {E : Type 0} (b : Bool) (fault : E) (x : Unit {0}) → must b fault ≡ Ok x → b ≡ true
 must_ok true fault x is = refl
 must_ok false fault x is = absurd cc
-
-pub given_some : {A E : Type 0} (o : Option A) (fault : E) (x : A) → ok_or o fault ≡ Ok x → o ≡ Some x
-given_some (Some y) fault x is = let same : y ≡ x = cc in ap Some same
-given_some None fault x is = absurd cc
 
 -- ---- an image that is only read
 
@@ -78,20 +74,6 @@ shows_released s f k has old held new file shown before after name result out at
   flushed = flushed;
 }
 
--- a tool that only shows, among those that may write
-pub runs_shown : {S F K : Type 0} (s : shelf.Ghosts S F) (k : sink.Ghosts K) (has : Status → Type 0) (old new : S) (before after : K)
-    (result : Result (Unit {0}) Status) → (s.seen old).attached ≡ [] → OnlyShows s k has old new before after result
-    → MayWriteFiles s k has old new before after result
-runs_shown s k has old new before after result none shown = record {
-  told = ap (λ shelf. shelf.is_told) shown.seen;
-  detached = ap (λ shelf. shelf.attached) shown.seen ∙ none;
-  counts = shown.counts;
-  puts = shown.puts;
-  cause = IfErr-weaker result _ _ (λ fault. because_map (status_origin fault) (λ rose. rose) (λ rose. inr rose) (λ want. want)) shown.cause;
-  refusal = shown.refusal;
-  flushed = shown.flushed;
-}
-
 shown_answer : (expected : Result (List ℕ) Status) → without_bytes expected ≡ end_of (printing_of expected).fault
 shown_answer (Ok bytes) = refl
 shown_answer (Err fault) = refl
@@ -108,19 +90,6 @@ prints_of expected result before after is = record {
   output = λ settled. is.output settled ∙ ap (λ bytes. after_put bytes before) (shown_bytes expected);
   prefix = subst (λ bytes. PutsPrefix bytes before after) (shown_bytes expected) is.prefix;
 }
-
--- what was printed is the outcome of a tool that only shows
-pub does_printed : (files left : Files) (expected : Printing Status) (result : Result (Unit {0}) Status) (before after : SinkState)
-    → Prints status_origin expected before result after → left ≡ files → Does (shows files expected) (status_of result) before after left
-does_printed files left expected (Ok x) before after is same =
-    record { status = λ settled. ap status_of (is.answer tt); output = λ settled. is.output tt; files = λ settled. same; prefix = is.prefix }
-does_printed files left expected (Err fault) before after is same =
-    record { status = λ settled. ap status_of (is.answer settled); output = λ settled. is.output settled; files = λ settled. same; prefix = is.prefix }
-
-pub does_shown : (files left : Files) (expected : Result (List ℕ) Status) (result : Result (Unit {0}) Status) (before after : SinkState)
-    → Puts status_origin expected before result after → left ≡ files → Does (shows files (printing_of expected)) (status_of result) before after left
-does_shown files left expected result before after is same =
-    does_printed files left (printing_of expected) result before after (prints_of expected result before after is) same
 
 -- a refusal that puts nothing and changes no file
 pub does_refused : (outcome : Outcome) (fault : Status) (files left : Files) (before after : SinkState) → after ≡ before → left ≡ files

@@ -41,9 +41,10 @@ CatRefuses status.WriteFault = Unit {0}
 CatRefuses status.NoMemory = Unit {0}
 CatRefuses other = ⊥
 
--- the bytes of the stream of this type and name of the record that is meant of an image: the volume opens, the record is
--- there by its number or its path, the stream is gathered from whichever records hold its extents, it is plain, and its bytes are those of its clusters, with zeros in holes and from
--- the initialised size on (the Linux-NTFS documentation, "$ATTRIBUTE_LIST" and "Attribute Header")
+-- the bytes of the stream of this type and name of the record that is meant: the volume opens, the record is there by
+-- its number or its path, the stream is gathered from whichever records hold its extents, it is plain, and its bytes are
+-- those of its clusters, with zeros in holes and from the initialised size on (the Linux-NTFS documentation,
+-- "$ATTRIBUTE_LIST" and "Attribute Header")
 pub record IsStreamOf (image : List ℕ) (place : Target) (kind : ℕ) (name bytes : List ℕ) : Type 0 where
   pub volume : Opened
   pub number : ℕ
@@ -56,8 +57,8 @@ pub record IsStreamOf (image : List ℕ) (place : Target) (kind : ℕ) (name byt
   pub whole : bytes ≡ bytes_of_stream volume.geometry.cluster (filled_stream volume.geometry image found.stream)
 
 -- the bytes of the stream of a record of the image of a name were put
-pub record PutsStream (file : List ℕ) (place : Target) (kind : ℕ) (name : List ℕ) (files : Files) (old new : SinkState) :
-    Type 0 where
+pub record PutsStream (file : List ℕ) (place : Target) (kind : ℕ) (name : List ℕ) (files : Files)
+    (old new : SinkState) : Type 0 where
   pub image : List ℕ
   pub bytes : List ℕ
   pub held : file_of files file ≡ Some image

@@ -1,5 +1,5 @@
 -- `ntfsls`: the entries of a directory.
-use Rattle.std.specs.Prelude.{ℕ, Bool, List, [], Option, Some, None}
+use Rattle.std.specs.Prelude.{ℕ, List, [], Option, Some, None}
 use Rattle.ntfs_base.specs.declared.refusal.Named.TheVariants as named
 use Rattle.ntfs_show.specs.ListPath.{list_outcome}
 use Rattle.ntfs_show.specs.Printing.{Printing}

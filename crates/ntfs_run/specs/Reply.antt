@@ -1,6 +1,6 @@
 -- What the program replies to the words of a command line and the files of the shelf. Each tool has a module of its
 -- own. The words are ours.
-use Rattle.std.specs.Prelude.{◌≡◌, ◌⊎◌, ◌≤◌, ℕ, true, List, [], Option, Some, None, Result, Ok, Err}
+use Rattle.std.specs.Prelude.{◌≡◌, ◌⊎◌, ◌≤◌, ℕ, true, List, [], Option, Some, Result, Ok, Err}
 use Rattle.ntfs_base.specs.Causes.{HaveNotFallen, Rose}
 use Rattle.ntfs_base.specs.Frames.{Because, IfFiles, IsSettled, PutsPrefix, SinkHasNotFallen}
 use Rattle.ntfs_base.specs.Shelf.{Files}

@@ -54,8 +54,8 @@ fn put_numbered<G: Image, O: Sink>(
 ) -> Result<(), Status>
     requires { HasClusters (G.seen image.old).size table.now }
     ensures puts { IfTold G.Image image.old (λ content. Puts status_origin (refused_as show_status
-        (cat_outcome table.now content number stream.now.kind (stream_name stream.now.name.now))) (O.seen out.old) result
-        (O.seen out.new)) }
+        (cat_outcome table.now content number stream.now.kind (stream_name stream.now.name.now)))
+        (O.seen out.old) result (O.seen out.new)) }
     ensures copies { Copies G.Image O.Sink status_origin image.old image.new out.old out.new result }
     ensures refusal { IfErr result CatRefuses }
 {

@@ -53,8 +53,8 @@ pub fn arguments<E: Env>(alloc: Global, env: &E) -> Result<Vec<String>, Argument
     Ok(words)
 }
 
-/// The last part of the program's own name, where a tool has that name, and else nothing. A name that isn't text is none
-/// of a tool.
+/// The last part of the program's own name, where a tool has that name, and else nothing. A name that isn't text is no
+/// tool's.
 fn own_tool<E: Env>(
     alloc: Global,
     env: &E,

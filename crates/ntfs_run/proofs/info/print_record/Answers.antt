@@ -1,4 +1,3 @@
-use Rattle.std.proofs.Common.{refl}
 use Rattle.std.proofs.lemmas.Result.{err_from_is_err_and}
 use Rattle.ntfs_show.specs.RecordInfo.{record_printing}
 use Rattle.ntfs_run.specs.Info.{record_lines}
