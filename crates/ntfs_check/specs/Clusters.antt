@@ -43,11 +43,11 @@ is_same_bit owned bit = if owned then bit else not bit
 abbrev pub are_bits_of : (ℕ → Bool) → ℕ → List ℕ → Bool
 are_bits_of test n bytes = holds_below n (λ k. is_same_bit (test k) (has_bit bytes k))
 
--- they are those of the owned clusters
-unfoldable pub are_owned_bits : ℕ → List (Claim ℕ) → List ℕ → Bool
-are_owned_bits n claims bytes = are_bits_of (is_owned claims) n bytes
+-- record 6 is $Bitmap, as `is_bitmap` says, and its bits that are 1 are those of the clusters that pass a test
+abbrev pub c9_by : Bool → (ℕ → Bool) → ℕ → List ℕ → Option ℕ
+c9_by is_bitmap test n bytes = if is_bitmap && are_bits_of test n bytes then None else Some 6
 
 -- C9: record 6 is what rule C15 says of it, and the bits of its stream that are 1, of all clusters of the volume, are
 -- those of the owned ones
 unfoldable pub c9 : Bool → ℕ → List (Claim ℕ) → List ℕ → Option ℕ
-c9 is_bitmap n claims bytes = if is_bitmap && are_owned_bits n claims bytes then None else Some 6
+c9 is_bitmap n claims bytes = c9_by is_bitmap (is_owned claims) n bytes

@@ -9,3 +9,5 @@ pub mod Directories
 pub mod FixedRecords
 pub mod Accepts
 pub mod Outcome
+pub mod Asked
+pub mod Content

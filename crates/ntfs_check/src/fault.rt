@@ -1,4 +1,5 @@
 use ntfs_base::{Failed, Rule};
+use ntfs_volume::VolumeFault;
 use std::alloc::AllocError;
 
 /// Why a volume isn't accepted, or wasn't judged.
@@ -29,5 +30,27 @@ impl From<AllocError> for CheckFault {
 
     fn from(_: AllocError) -> CheckFault {
         CheckFault::NoMemory
+    }
+}
+
+ghost use Rattle.std.specs.Prelude.{◌≡◌};
+
+/// The volume breaks this rule at this record.
+pub(crate) fn damaged(rule: Rule, number: u64) -> CheckFault
+    ensures { result ≡ CheckFault.Damaged rule number }
+{
+    CheckFault::Damaged { rule, number }
+}
+
+ghost use Rattle.ntfs_check.specs.Outcome.{cut_of};
+
+/// What cut a call on a volume off: none where its refusal says something of the volume.
+pub(crate) fn cut_of(fault: VolumeFault) -> Option<CheckFault>
+    ensures { result ≡ cut_of fault }
+{
+    match fault {
+        VolumeFault::ReadFault | VolumeFault::WriteFault => Some(CheckFault::ReadFault),
+        VolumeFault::NoMemory => Some(CheckFault::NoMemory),
+        _ => None,
     }
 }
