@@ -1,0 +1,10 @@
+mod DataLemmas
+mod AcceptsLemmas
+mod ClaimLemmas
+mod SearchLemmas
+mod ContentLemmas
+mod BitmapLemmas
+mod NameLemmas
+mod AskedLemmas
+mod FixedLemmas
+mod MarkLemmas

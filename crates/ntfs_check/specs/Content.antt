@@ -1,0 +1,20 @@
+-- What the runs of a stream show, cluster by cluster. The words are ours.
+use Rattle.std.specs.Prelude.{◌≡◌, ◌≤◌, ◌<◌, ◌^◌, ◌*◌, ℕ, List, true, length}
+use Rattle.ntfs_base.specs.Bytes.{cluster_at}
+use Rattle.ntfs_boot.specs.Geometry.{IsOpened, bytes_of_clusters}
+use Rattle.ntfs_boot.specs.declared.geometry.Geometry.{Geometry}
+use Rattle.ntfs_runs.specs.Cells.{are_cells, map_cells}
+use Rattle.ntfs_runs.specs.Clusters.{AreWithin, vcns}
+use Rattle.ntfs_runs.specs.declared.run.Run.{Run}
+use Rattle.ntfs_stream.specs.Putting.{shown_cells}
+
+-- runs can be read in an image of this length, on a volume of this geometry
+pub record CanRead (size : ℕ) (g : Geometry) (runs : List Run) : Type 0 where
+  pub opened : IsOpened size g
+  pub within : AreWithin runs
+  pub cells : are_cells true g.clusters (vcns runs) ≡ true
+
+-- what they show, where so many bytes from the first on are initialised
+abbrev pub shown_bytes : Geometry → List ℕ → ℕ → List Run → List ℕ
+shown_bytes g image valid runs =
+    shown_cells g.cluster valid (map_cells (cluster_at image g.cluster) (vcns runs))
