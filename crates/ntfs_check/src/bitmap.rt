@@ -56,7 +56,8 @@ fn are_bits_of<G: Image>(
     Ok(true)
 }
 
-/// A stream is what $Bitmap has to be: of one extent, without flags and holes, with an initialised bit for each cluster.
+/// A stream is what $Bitmap has to be: of one extent, without flags and holes, with an initialised bit for each
+/// cluster.
 #[tactic(auto, unfolding(crate::specs::FixedRecords::is_bitmap, crate::specs::FixedRecords::is_solid))]
 fn is_bitmap(geometry: &Geometry, stream: &Stream) -> bool
     ensures { result ≡ is_bitmap geometry.now.clusters stream.now }

@@ -28,8 +28,8 @@ fn clear(buffer: &mut [u8], from: usize)
     buffer[from..].fill(0);
 }
 
-/// Reads a cluster of a stream of which so many bytes, from its first on, are initialised. A hole, and bytes that aren't
-/// initialised, are zeros; a hole, and a cluster of which nothing is initialised, is never read.
+/// Reads a cluster of a stream of which so many bytes, from its first on, are initialised. A hole, and bytes that
+/// aren't initialised, are zeros; a hole, and a cluster of which nothing is initialised, is never read.
 fn read_cell<G: Image>(
     image: &mut G,
     geometry: &Geometry,
@@ -82,7 +82,8 @@ pub(crate) fn read_vcn<G: Image>(
     requires there { vcn < length (vcns runs.now) }
     requires whole { length into.old ≡ geometry.now.cluster }
     ensures bytes { OnOk result (IfTold G.Image image.old (λ content. into.new
-        ≡ piece_at (vcn * geometry.now.cluster) geometry.now.cluster (shown_bytes geometry.now content valid runs.now))) }
+        ≡ piece_at (vcn * geometry.now.cluster) geometry.now.cluster
+        (shown_bytes geometry.now content valid runs.now))) }
     ensures refused { IfErr result (λ fault. fault ≡ CheckFault.ReadFault) }
     ensures reads { OnlyReads G.Image check_origin image.old image.new result }
 {

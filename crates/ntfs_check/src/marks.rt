@@ -17,7 +17,8 @@ use ntfs_base::{Image, Rule};
 use ntfs_volume::Table;
 use std::alloc::Global;
 
-/// Whether what is asked holds of all records in use, or which is the first of which it doesn't: that one breaks a rule.
+/// Whether what is asked holds of all records in use, or which is the first of which it doesn't: that one breaks a
+/// rule.
 fn ask_all<G: Image>(
     alloc: Global,
     image: &mut G,
@@ -27,7 +28,8 @@ fn ask_all<G: Image>(
 ) -> Result<(), CheckFault>
     requires held { HasClusters (G.seen image.old).size table.now }
     ensures gives { IfTold G.Image image.old (λ content. Gives check_origin (λ done. done)
-        (unless_number rule (first_refused table.now (cluster_at content table.now.geometry.cluster) asked.now) tt) result) }
+        (unless_number rule (first_refused table.now (cluster_at content table.now.geometry.cluster) asked.now) tt)
+        result) }
     ensures reads { OnlyReads G.Image check_origin image.old image.new result }
 {
     let found = first_failing(alloc, image, table, asked)?;
