@@ -1,5 +1,5 @@
--- The clone image of a volume, as a save writes it: the header, then each owned cluster with its bytes, each longest row
--- of others as one gap, and the tail, which holds the backup boot sector. The words are ours.
+-- The clone image of a volume, as a save writes it: the header, then each owned cluster with its bytes, each longest
+-- row of others as one gap, and the tail, which holds the backup boot sector. The words are ours.
 use Rattle.std.specs.Prelude.{◌+◌, ◌-◌, ◌*◌, ℕ, zero, suc, Bool, List, [], ◌∷◌, ◌++◌, drop, replicate, take, if◌then◌else◌}
 use Rattle.byteorder.specs.Endian.{little_bytes}
 use Rattle.ntfs_base.specs.Bytes.{cluster_at}

@@ -49,8 +49,8 @@ pub record HasRestored (h : CloneHeader) (all : List ℕ) (p : Progress) (rest :
   pub reading : HasRead h all p rest
   pub held : IsTrue target.is_told → IsHeld h reading.read row target.content
 
--- what stands after all commands were to be written: those that are right, where the work was not cut off, and else some
--- of the first; and whether they end before the tail
+-- what stands after all commands were to be written: those that are right, where the work was not cut off, and else
+-- some of the first; and whether they end before the tail
 abbrev pub IsWritten : CloneHeader → List ℕ → Result Bool CloneFault → List ℕ → Type 0
 IsWritten h bytes (Ok before_tail) content =
     (content ≡ laid_out h (right_commands h bytes))
@@ -73,7 +73,8 @@ pub record Makes {T E : Type 0} (asked old : List ℕ) (result : Result T E) (ne
   pub part : OnErr result ((new ≡ old) ⊎ (new ≡ asked))
 
 -- a call over a file that is read and written
-pub record OnlyChanges {F T : Type 0} (f : image.Ghosts F) (before after : F) (result : Result T CloneFault) : Type 0 where
+pub record OnlyChanges {F T : Type 0} (f : image.Ghosts F) (before after : F) (result : Result T CloneFault)
+    : Type 0 where
   pub counts : HaveNotFallen (f.faults before) (f.faults after)
   pub cause : IfErr result (λ fault. Because (clone_origin fault) (Rose (f.faults before).reads (f.faults after).reads)
       (Rose (f.faults before).writes (f.faults after).writes) (Unit {0}))

@@ -64,7 +64,8 @@ impl Progress {
         requires allowed { IsAllowed self.now.room self.now.after_empty command.now }
         requires cluster { cluster ≤ 65536 }
         ensures room { (bytes : List ℕ) → result.room ≡ self.now.room - covers (found_in cluster bytes command.now) }
-        ensures after_empty { (bytes : List ℕ) → result.after_empty ≡ is_empty_gap (found_in cluster bytes command.now) }
+        ensures after_empty { (bytes : List ℕ)
+            → result.after_empty ≡ is_empty_gap (found_in cluster bytes command.now) }
         ensures place { result.place ≡ self.now.place + found_length cluster command.now }
         ensures fits { HasPlace result }
         ensures fewer { commands_left result.room result.after_empty

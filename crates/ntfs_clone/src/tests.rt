@@ -1,5 +1,5 @@
-//! Clone images: each field of the header wrong, cut off and at its limits, each command likewise, and what is restored.
-//! The images are spelled here from the format in words.
+//! Clone images: each field of the header wrong, cut off and at its limits, each command likewise, and what is
+//! restored. The images are spelled here from the format in words.
 ghost use Rattle.std.specs.Prelude.{◌≡◌, [], IfOk};
 ghost use Rattle.ntfs_base.specs.MemShelf.{seen_mem_file};
 
