@@ -1021,7 +1021,7 @@ TABLE = [
     ("C15: record 8, resident", V0, [replace(8, DATA, resident(DATA, b"", "$Bad"), "$Bad"), bits(off=[512])], bad("C15", 8)),
     ("C15: record 8, short", V0, [pairs(8, b"\2\0\2\0", name="$Bad"), vcns(8, 0, 511, name="$Bad"), sizes(8, 0, 0, name="$Bad"), bits(off=[512])],
      "accepted 118"),
-    ("C15: rows 8 and 3", V0, [attribute(8, DATA, 12, u16(1), "$Bad"), attribute(3, INFO, 12, u16(1))], bad("C15", 3)),
+    ("C15: records 8 and 3", V0, [attribute(8, DATA, 12, u16(1), "$Bad"), attribute(3, INFO, 12, u16(1))], bad("C15", 3)),
 ]
 
 # Damages that break one condition alone, with all else about them in order
