@@ -1,5 +1,5 @@
 -- The first fault of a volume.
-use Rattle.std.proofs.Common.{◌≡◌, ℕ, List, Option, Result, Ok, refl, sym, ap, ◌∙◌}
+use Rattle.std.proofs.Common.{◌≡◌, ℕ, List, Ok, sym, ap, ◌∙◌}
 use Rattle.std.specs.Option.{option_map}
 use Rattle.ntfs_base.specs.Bytes.{cluster_at}
 use Rattle.ntfs_check.specs.Accepts.{damaged, fault_of, first_fault, opened_fault}

@@ -1,5 +1,5 @@
 -- Bits of a stream, piece by piece.
-use Rattle.std.proofs.Common.{◌≡◌, ◌≤◌, ◌<◌, ◌+◌, ◌-◌, ◌*◌, ◌/◌, ◌&&◌, ◌⊎◌, inl, inr, ℕ, zero, suc, Bool, true, false, List, Option, Some, None, ◌++◌, length, take, drop, min, refl, sym, ap, ◌∙◌, subst, arith, nat_le, nat_lt, ◌==◌, if◌then◌else◌}
+use Rattle.std.proofs.Common.{◌≡◌, ◌≤◌, ◌<◌, ◌+◌, ◌-◌, ◌*◌, ◌&&◌, inl, inr, ℕ, zero, suc, Bool, true, false, List, Option, Some, None, ◌++◌, length, take, drop, min, refl, sym, ap, ◌∙◌, subst, arith, nat_le, nat_lt, ◌==◌, if◌then◌else◌}
 use Rattle.std.proofs.Math.Seq.{take-add}
 use Rattle.std.specs.Prelude.{is_some, not}
 use Rattle.std.proofs.lemmas.Bool.{and_from, cases_lt, leb-true}

@@ -3,10 +3,9 @@ use Rattle.std.proofs.Common.{◌≡◌, ◌≤◌, ◌<◌, ◌+◌, ◌-◌, �
 use Rattle.std.specs.Prelude.{replicate, slice_get, IfOk, IfSome}
 use Rattle.std.specs.Option.{option_map}
 use Rattle.std.proofs.lemmas.Bool.{leb-true, ltb-true}
-use Rattle.std.proofs.lemmas.List.{length-map, length-replicate, length-take, places, same_lists, take-append-le, take_at}
+use Rattle.std.proofs.lemmas.List.{length-map, length-replicate, length-take, places, same_lists, take_at}
 use Rattle.std.proofs.lemmas.Option.{slice_get_within}
 use Rattle.std.proofs.Math.Seq.{drop-append-add}
-use Rattle.ntfs_base.proofs.BytesLemmas.{length-cluster_at}
 use Rattle.ntfs_base.specs.Bytes.{cluster_at, piece_at}
 use Rattle.ntfs_runs.specs.Cells.{are_cells, is_cell, map_cells}
 use Rattle.ntfs_stream.proofs.BoolLemmas.{and-left, and-right}
@@ -15,7 +14,7 @@ use Rattle.ntfs_boot.specs.declared.geometry.Geometry.{Geometry}
 use Rattle.ntfs_stream.specs.StreamBytes.{bytes_of_stream, filled_stream}
 use Rattle.ntfs_volume.specs.Streams.{IsReadable, Stream}
 use Rattle.ntfs_stream.specs.Putting.{shown_cell, shown_cells}
-use Rattle.ntfs_volume.specs.StreamBytes.{cell_bytes, cells_bytes, have_room, runs_bytes}
+use Rattle.ntfs_volume.specs.StreamBytes.{cell_bytes, cells_bytes, runs_bytes}
 
 -- ---- one cell
 

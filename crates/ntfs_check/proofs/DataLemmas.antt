@@ -1,12 +1,11 @@
 -- The views of a volume as finite data are those of the opened volume.
-use Rattle.std.proofs.Common.{◌≡◌, ◌+◌, ◌&&◌, ◌||◌, ℕ, zero, suc, Bool, true, false, List, [], ◌∷◌, Option, Some, None, Result, Ok, Err, map, refl, sym, ap, ◌∙◌, arith}
+use Rattle.std.proofs.Common.{◌≡◌, ◌&&◌, ◌||◌, ℕ, zero, suc, Bool, List, [], ◌∷◌, Option, Some, None, map, refl, ap, ◌∙◌}
 use Rattle.std.proofs.Math.Path.{fun_ext}
 use Rattle.std.specs.Prelude.{not}
 use Rattle.std.specs.List.{list_all}
 use Rattle.ntfs_base.specs.Bytes.{Cluster, fill_cluster}
-use Rattle.ntfs_boot.specs.declared.geometry.Geometry.{Geometry}
-use Rattle.ntfs_check.specs.Records.{c4, c6, c7, first_bad, has_name_between}
-use Rattle.ntfs_check.specs.VolumeData.{Records, VolumeData, contents, listings, listings_of, numbers, volume_data}
+use Rattle.ntfs_check.specs.Records.{c4, c6, c7, has_name_between}
+use Rattle.ntfs_check.specs.VolumeData.{Records, contents, listings, listings_of, numbers, volume_data}
 use Rattle.ntfs_record.proofs.SlotLemmas.{first_not-map, map_slots-agree, map_slots-map_slots}
 use Rattle.ntfs_record.specs.FileRecord.{Attribute, Head, Laid, Spot}
 use Rattle.ntfs_record.specs.Slots.{Slot, first_not, map_laid, map_slot, map_slots, on_payload}
@@ -14,7 +13,7 @@ use Rattle.ntfs_runs.proofs.CellsLemmas.{map_cells-map_cells}
 use Rattle.ntfs_runs.specs.Cells.{Cells, cells_below, map_cells}
 use Rattle.ntfs_survey.specs.Owned.{have_cells, is_whole}
 use Rattle.ntfs_volume.specs.Gather.{Lists}
-use Rattle.ntfs_volume.specs.Laws.{in_cells, in_located, in_slots}
+use Rattle.ntfs_volume.specs.Laws.{in_located, in_slots}
 use Rattle.ntfs_volume.specs.Listing.{filled_attribute, filled_attributes, listing_in}
 use Rattle.ntfs_volume.specs.Located.{Located, map_located, slot_at, slots_of, unlocated, with_cells}
 use Rattle.ntfs_volume.specs.Opened.{Opened}

@@ -1,5 +1,5 @@
 -- Records with fixed numbers, and whether they have an attribute list.
-use Rattle.std.proofs.Common.{◌≡◌, ◌≤◌, ◌<◌, ◌+◌, ◌*◌, ◌/◌, ◌==◌, ◌||◌, inl, inr, ℕ, zero, suc, Bool, true, false, List, [], ◌∷◌, length, take, map, nat_le, Option, Some, None, Result, Ok, Err, refl, sym, ap, subst, ◌∙◌, arith, if◌then◌else◌}
+use Rattle.std.proofs.Common.{◌≡◌, ◌≤◌, ◌<◌, ◌+◌, ◌*◌, ◌==◌, ◌||◌, inl, inr, ℕ, zero, suc, Bool, true, false, List, [], ◌∷◌, length, take, map, nat_le, Option, Some, None, Result, Ok, Err, refl, sym, ap, subst, ◌∙◌, arith, if◌then◌else◌}
 use Rattle.std.specs.Option.{ok_or}
 use Rattle.std.specs.Prelude.{find, is_some}
 use Rattle.std.specs.List.{list_any}
@@ -24,7 +24,7 @@ use Rattle.ntfs_record.specs.Slots.{Slot, begins_baad, is_in_use, record_in, tel
 use Rattle.ntfs_record.specs.Views.{Placed, Shown, shown_placed}
 use Rattle.ntfs_record.specs.declared.fault.RecordFault.{RecordFault}
 use Rattle.ntfs_runs.specs.Cells.{Cells}
-use Rattle.ntfs_volume.specs.Listing.{filled_attribute, filled_attributes, bytes_of_list, is_list, listing_in, listing_of, listing_of_bytes, listing_of_entries}
+use Rattle.ntfs_volume.specs.Listing.{filled_attributes, bytes_of_list, is_list, listing_in, listing_of, listing_of_bytes, listing_of_entries}
 use Rattle.ntfs_attrlist.specs.Reading.{list_entries}
 use Rattle.ntfs_volume.specs.Located.{Located, idle, live_located, located_attributes, located_of, located_slot, slot_at, slots_from, slots_of, sound_located, unlocated, unsound_located}
 use Rattle.ntfs_volume.specs.MftMap.{Map}

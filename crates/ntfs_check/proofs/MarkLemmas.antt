@@ -1,5 +1,5 @@
 -- Rules C5 and C6, by what is asked of each record.
-use Rattle.std.proofs.Common.{◌≡◌, ◌||◌, ℕ, List, Option, Result, refl, sym, ap, ◌∙◌, subst}
+use Rattle.std.proofs.Common.{◌≡◌, ℕ, List, Option, Result, refl, sym, ◌∙◌, subst}
 use Rattle.ntfs_base.specs.Frames.{Gives}
 use Rattle.ntfs_base.specs.declared.refusal.Rule.TheVariants as rule
 use Rattle.ntfs_check.proofs.DataLemmas.{c6-is}
@@ -9,9 +9,7 @@ use Rattle.ntfs_check.specs.Records.{c6}
 use Rattle.ntfs_check.specs.VolumeData.{volume_data}
 use Rattle.ntfs_check.specs.declared.asked.Asked.TheVariants as asked
 use Rattle.ntfs_check.specs.declared.fault.CheckFault.{CheckFault}
-use Rattle.ntfs_record.specs.FileRecord.{Laid}
-use Rattle.ntfs_record.specs.Slots.{Slot}
-use Rattle.ntfs_volume.specs.Located.{Located, slots_of}
+use Rattle.ntfs_volume.specs.Located.{slots_of}
 use Rattle.ntfs_volume.specs.Opened.{Opened}
 
 names-asked : (o : Opened) (f : ℕ → List ℕ) → first_refused o f asked.Names ≡ c6 (slots_of o.geometry o.map f)

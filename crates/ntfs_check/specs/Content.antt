@@ -1,7 +1,7 @@
 -- What the runs of a stream show, cluster by cluster. The words are ours.
-use Rattle.std.specs.Prelude.{◌≡◌, ◌≤◌, ◌<◌, ◌^◌, ◌*◌, ℕ, List, true, length}
+use Rattle.std.specs.Prelude.{◌≡◌, ℕ, List, true}
 use Rattle.ntfs_base.specs.Bytes.{cluster_at}
-use Rattle.ntfs_boot.specs.Geometry.{IsOpened, bytes_of_clusters}
+use Rattle.ntfs_boot.specs.Geometry.{IsOpened}
 use Rattle.ntfs_boot.specs.declared.geometry.Geometry.{Geometry}
 use Rattle.ntfs_runs.specs.Cells.{are_cells, map_cells}
 use Rattle.ntfs_runs.specs.Clusters.{AreWithin, vcns}

@@ -1,6 +1,6 @@
 -- Rules C13 and C14, of directories and the names in them (the Linux-NTFS documentation, "Directory", "$UpCase" and
 -- "$FILE_NAME"; the rules are ours). They look at contents alone, wherever they lie.
-use Rattle.std.specs.Prelude.{◌+◌, ◌*◌, ◌/◌, ◌%◌, ◌==◌, ◌&&◌, ◌||◌, not, ℕ, Bool, true, false, List, [], ◌∷◌, length, map, Option, Some, None, Result, Ok, Err, nat_le, is_some}
+use Rattle.std.specs.Prelude.{◌+◌, ◌*◌, ◌/◌, ◌%◌, ◌==◌, ◌&&◌, ◌||◌, not, ℕ, Bool, true, false, List, [], ◌∷◌, length, map, Option, Some, Result, Ok, Err, nat_le, is_some}
 use Rattle.std.specs.List.{list_all, list_any}
 use Rattle.std.specs.Ordering.{is_gt}
 use Rattle.std.specs.Str.{bytes_eq}
@@ -19,7 +19,6 @@ use Rattle.ntfs_record.specs.Slots.{Slot}
 use Rattle.ntfs_upcase.specs.Collation.{collate}
 use Rattle.ntfs_upcase.specs.Names.{units}
 use Rattle.ntfs_volume.specs.Gather.{Extent, Lists, extents}
-use Rattle.ntfs_volume.specs.Located.{slot_at}
 use Rattle.ntfs_volume.specs.References.{matches, target}
 use Rattle.ntfs_volume.specs.Streams.{Gathered, gather}
 use Rattle.ntfs_volume.specs.declared.fault.VolumeFault.{VolumeFault}

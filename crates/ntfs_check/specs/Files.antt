@@ -1,6 +1,6 @@
 -- Rules C10, C11 and C12, of files whose attributes stand in more than one record (the Linux-NTFS documentation, "File
 -- Record", "$ATTRIBUTE_LIST" and "Attribute Header"; the rules are ours).
-use Rattle.std.specs.Prelude.{◌-◌, ◌+◌, ◌==◌, ◌&&◌, ◌||◌, not, ℕ, suc, Bool, true, false, List, [], ◌∷◌, ◌++◌, filter, find, length, map, Option, Some, None, Result, Ok, Err, if◌then◌else◌}
+use Rattle.std.specs.Prelude.{◌==◌, ◌&&◌, ◌||◌, not, ℕ, suc, Bool, true, false, List, [], ◌∷◌, ◌++◌, filter, find, length, map, Option, Some, None, Result, Ok, Err, if◌then◌else◌}
 use Rattle.std.specs.List.{list_all, list_any}
 use Rattle.std.specs.Str.{bytes_eq}
 use Rattle.ntfs_attrlist.specs.Entry.{Listed}
@@ -12,7 +12,7 @@ use Rattle.ntfs_runs.specs.Cells.{Cells}
 use Rattle.ntfs_volume.specs.Gather.{Extent, Id, Lists, extent_at, extents, id_of, is_of, means}
 use Rattle.ntfs_volume.specs.Listing.{RecordListing, is_list}
 use Rattle.ntfs_volume.specs.Located.{Located, slot_at}
-use Rattle.ntfs_volume.specs.References.{belongs, has_base, matches, target}
+use Rattle.ntfs_volume.specs.References.{has_base, matches, target}
 use Rattle.ntfs_volume.specs.Streams.{Part, part_of, stream_of}
 use Rattle.ntfs_volume.specs.declared.fault.VolumeFault.{VolumeFault}
 

@@ -1,7 +1,7 @@
 -- Rules C15 and C16, of the records with fixed numbers (the Linux-NTFS documentation, "Files": $MFT, $MFTMirr,
 -- $LogFile, $Volume, the root directory, $Bitmap, $Boot and $BadClus; the rules are ours). C15 looks at clusters by
 -- their numbers; of each of these records the row is a test of its own.
-use Rattle.std.specs.Prelude.{◌+◌, ◌*◌, ◌/◌, ◌==◌, ◌&&◌, ◌||◌, not, ℕ, suc, Bool, true, false, List, [], ◌∷◌, length, map, Option, Some, None, Result, Ok, Err, nat_le, nat_lt, slice_index}
+use Rattle.std.specs.Prelude.{◌+◌, ◌*◌, ◌==◌, ◌&&◌, ◌||◌, not, ℕ, suc, Bool, true, false, List, [], ◌∷◌, length, map, Option, Some, None, Result, Ok, Err, nat_le, nat_lt, slice_index}
 use Rattle.std.specs.Int.{div_ceil}
 use Rattle.ntfs_base.specs.Bytes.{clusters_for, number_at, raw_of}
 use Rattle.ntfs_base.specs.Checks.{Check, check, first_wrong}

@@ -1,7 +1,7 @@
 -- What the check answers: the refusal of the first rule that a volume breaks, or what an accepted one has. The words
 -- are ours.
 use Rattle.std.specs.List.{flat_map}
-use Rattle.std.specs.Prelude.{ℕ, Bool, List, [], ◌∷◌, Option, Some, None, Result, Ok, Err}
+use Rattle.std.specs.Prelude.{ℕ, Bool, List, [], Option, Some, None, Result, Ok, Err}
 use Rattle.ntfs_base.specs.Frames.{Origin, content, reading, memory, ◌>>=◌}
 use Rattle.ntfs_base.specs.declared.refusal.Rule.{Rule}
 use Rattle.ntfs_base.specs.declared.refusal.Rule.TheVariants as rule

@@ -115,9 +115,9 @@ fn lay_out<F: HostFile>(header: &CloneHeader, target: &mut F) -> Result<(), Clon
 /// Restores a clone image to an empty file. Its header was read from the source before.
 ///
 /// The file gets the device's length, the clusters that the image has are written in rows, and the gaps stay zeros.
-/// What of the tail passes the device's end is cut off. Where the commands end before the tail, the backup boot sector is
-/// made anew, if the file begins with the boot sector of the header's volume. Of an image that is wrong, the commands
-/// before that place stand. After a fault nothing stands, or a front of the commands, or the whole.
+/// What of the tail passes the device's end is cut off. Where the commands end before the tail, the backup boot sector
+/// is made anew, if the file begins with the boot sector of the header's volume. Of an image that is wrong, the
+/// commands before that place stand. After a fault nothing stands, or a front of the commands, or the whole.
 ///
 /// It reads the source once, through a buffer of half a mebibyte; a row has as much.
 pub fn restore_to<I: Source, F: HostFile>(

@@ -42,8 +42,8 @@ CatRefuses status.NoMemory = Unit {0}
 CatRefuses other = ⊥
 
 -- the bytes of the stream of this type and name of the record that is meant: the volume opens, the record is there by
--- its number or its path, the stream is gathered from whichever records hold its extents, it is plain, and its bytes are
--- those of its clusters, with zeros in holes and from the initialised size on (the Linux-NTFS documentation,
+-- its number or its path, the stream is gathered from whichever records hold its extents, it is plain, and its bytes
+-- are those of its clusters, with zeros in holes and from the initialised size on (the Linux-NTFS documentation,
 -- "$ATTRIBUTE_LIST" and "Attribute Header")
 pub record IsStreamOf (image : List ℕ) (place : Target) (kind : ℕ) (name bytes : List ℕ) : Type 0 where
   pub volume : Opened

@@ -1,7 +1,7 @@
--- What is printed of a directory: a line for each entry that is shown, in the order of its index, and with the recursion
--- the lines of a directory's entries right behind its own (the manual page ntfsls(8) on the options; the Linux-NTFS
--- documentation, "$FILE_NAME", on names and their namespaces, and "Directory"). The texts, the refusals and the words
--- are ours.
+-- What is printed of a directory: a line for each entry that is shown, in the order of its index, and with the
+-- recursion the lines of a directory's entries right behind its own (the manual page ntfsls(8) on the options; the
+-- Linux-NTFS documentation, "$FILE_NAME", on names and their namespaces, and "Directory"). The texts, the refusals and
+-- the words are ours.
 use Rattle.std.specs.Prelude.{◌==◌, ◌&&◌, ◌||◌, ◌++◌, ◌^◌, ℕ, zero, suc, Bool, false, not, nat_le, length, slice_index, List, [], ◌∷◌, Option, Some, None, Result, Ok, Err, if◌then◌else◌}
 use Rattle.std.specs.BTreeMap.{is_at}
 use Rattle.std.specs.BTreeSet.{insert_key}
@@ -106,7 +106,9 @@ list_below enter is front number others met = if is then enter front number othe
 module _ (o : ListOptions) (v : Opened) (image : List ℕ) where
   -- an entry of directory d with this reference is a directory, by its record, which is read where the options need it
   unfoldable pub entry_kind : ℕ → ℕ → Result Bool ShowFault
-  entry_kind d reference = if o.classify || o.recursive then kind_of d (entry_record v.geometry v.map image d reference) else Ok false
+  entry_kind d reference =
+      if o.classify || o.recursive then kind_of d (entry_record v.geometry v.map image d reference)
+      else Ok false
 
   -- an entry of directory d, before whose name this front stands: nothing where it isn't shown; and then the others
   abbrev pub list_given : Enter → List ℕ → ℕ → IndexEntry → Next → Next

@@ -109,8 +109,8 @@ abbrev pub only_if : Bool → ℕ → ℕ
 only_if b n = if b then n else 0
 
 -- what is known of m rows before cluster at is looked at, where functions give their first clusters and their ends:
--- active rows begin at it or before, the others wait and begin at it or behind it, by their first clusters; and the rows
--- that haven't ended are these together, which sums tell
+-- active rows begin at it or before, the others wait and begin at it or behind it, by their first clusters; and the
+-- rows that haven't ended are these together, which sums tell
 pub record IsSwept (first end : ℕ → ℕ) (m at : ℕ) (active : List ℕ) (waiting : List (ℕ × ℕ)) : Type 0 where
   pub law : (f : ℕ → ℕ)
       → sum_by f active + sum_by (λ s. f s.1) waiting ≡ sum_by (λ i. only_if (nat_lt at (end i)) (f i)) (upto m)

@@ -59,10 +59,10 @@ fn list_path<G: Image, K: Sink>(
 ///
 /// It prints a line for each entry that the options show, in the order of the index, as the walk gives it; with the
 /// recursion the entries of each directory that wasn't met before stand right behind its line. Where the options need
-/// the record of an entry, it is read before the line is printed. Before a refusal stand exactly the lines of what comes
-/// before it; after a fault or want of memory a prefix of them was put. The lines are put in pieces of at most 65,536
-/// bytes, but for a line that is longer. The recursion takes memory for each directory that it is in and for each that it
-/// met, and none of the processor's stack.
+/// the record of an entry, it is read before the line is printed. Before a refusal stand exactly the lines of what
+/// comes before it; after a fault or want of memory a prefix of them was put. The lines are put in pieces of at most
+/// 65,536 bytes, but for a line that is longer. The recursion takes memory for each directory that it is in and for
+/// each that it met, and none of the processor's stack.
 pub fn show_list<G: Image, K: Sink>(
     alloc: Global,
     image: &mut G,

@@ -1,5 +1,5 @@
-//! Paths on volumes of 64 clusters of 4,096 bytes, whose $UpCase maps `a` to `A` and each other unit to itself. Record 5
-//! is the root, 6 a directory, 7 and 9 are files; the sequence number of each is 3.
+//! Paths on volumes of 64 clusters of 4,096 bytes, whose $UpCase maps `a` to `A` and each other unit to itself.
+//! Record 5 is the root, 6 a directory, 7 and 9 are files; the sequence number of each is 3.
 
 use super::{damage, push_number, put, record, with_up_case};
 use crate::{PathFault, directory_at, resolve, resolve_path};
@@ -198,8 +198,8 @@ fn paths_are_split_and_looked_up(rt: HostRuntime) -> Result<(), Fail> {
     tell_all(&rt, rt.alloc(), &volume, ROOTS)
 }
 
-/// No record in use; another sequence number; an extension; another record's number; the same units before an entry that
-/// breaks a rule (its length is 9); a name that is only alike before it.
+/// No record in use; another sequence number; an extension; another record's number; the same units before an entry
+/// that breaks a rule (its length is 9); a name that is only alike before it.
 const ENTRIES: &[Case<'_>] = &[
     ("n", NONE, "C14 5", "C14 5"),
     ("s", NONE, "C14 5", "C14 5"),

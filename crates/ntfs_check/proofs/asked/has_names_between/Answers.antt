@@ -1,8 +1,7 @@
-use Rattle.std.proofs.Common.{◌≡◌, ◌∙◌, ap, sym, subst, arith, map, List, ℕ, length}
+use Rattle.std.proofs.Common.{◌∙◌, ap, sym, subst, arith, map, List}
 use Rattle.ntfs_check.proofs.NameLemmas.{all-names, next-name, no-names, own-bytes, own-within}
 use Rattle.ntfs_check.proofs.asked.has_names_between.Goals as goal
 use Rattle.ntfs_check.specs.Asked.{is_name_between}
-use Rattle.ntfs_record.proofs.StandsLemmas.{same_fields}
 use Rattle.ntfs_record.specs.Attribute.{IsRaw}
 use Rattle.ntfs_record.specs.Views.{Placed, shown_placed, shown_view}
 

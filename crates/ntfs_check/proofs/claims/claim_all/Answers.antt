@@ -1,10 +1,10 @@
-use Rattle.std.proofs.Common.{◌∙◌, ap, sym, subst, get_or, arith, Err}
+use Rattle.std.proofs.Common.{◌∙◌, ap, sym, subst, get_or, Err}
 use Rattle.std.proofs.lemmas.List.Elements.{All-get_or}
 use Rattle.ntfs_bitmap.specs.ClusterSet.{IsTaken, taken_in}
 use Rattle.ntfs_bitmap.specs.Search.{FindsLeast, IsLeast}
 use Rattle.ntfs_bitmap.specs.declared.fault.ClaimFault.{ClaimFault}
 use Rattle.ntfs_survey.specs.Owned.{LiesBelow}
-use Rattle.ntfs_check.proofs.ClaimLemmas.{bound-claims, claimed-none, claims_of, double-all, double-found, double-next, double-none, no_owner, once-found, once-none, set-all, set-next}
+use Rattle.ntfs_check.proofs.ClaimLemmas.{claimed-none, claims_of, double-all, double-found, double-next, double-none, no_owner, once-found, once-none, set-all, set-next}
 use Rattle.ntfs_check.proofs.claims.claim_all.Goals as goal
 
 pub owners-init : goal.owners-init

@@ -1,4 +1,4 @@
-use Rattle.std.proofs.Common.{◌≡◌, ◌<◌, ◌-◌, ◌*◌, ◌+◌, ◌≤◌, ℕ, length, min, take}
+use Rattle.std.proofs.Common.{◌≡◌, ◌<◌, ◌-◌, ◌*◌, ◌+◌, min, take}
 use Rattle.std.specs.Prelude.{IsTrue, vec_len}
 use Rattle.ntfs_base.specs.Causes.{HaveNotFallen}
 use Rattle.ntfs_check.specs.Content.{shown_bytes}

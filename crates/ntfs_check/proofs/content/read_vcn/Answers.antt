@@ -1,5 +1,4 @@
-use Rattle.std.proofs.Common.{◌≡◌, ◌-◌, ◌*◌, ◌≤◌, ◌∙◌, ap, sym, subst, arith, length, ℕ}
-use Rattle.ntfs_base.specs.Bytes.{cluster_at}
+use Rattle.std.proofs.Common.{◌≡◌, ◌≤◌, sym, subst, length, ℕ}
 use Rattle.ntfs_boot.specs.Geometry.{bytes_of_clusters}
 use Rattle.ntfs_check.proofs.ContentLemmas.{cell-below, left-is, vcn-read}
 use Rattle.ntfs_check.proofs.content.read_vcn.Goals as goal

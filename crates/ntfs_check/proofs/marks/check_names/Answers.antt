@@ -1,5 +1,4 @@
 use Rattle.ntfs_base.specs.Bytes.{cluster_at}
-use Rattle.ntfs_base.specs.declared.refusal.Rule.TheVariants as rule
 use Rattle.ntfs_check.proofs.MarkLemmas.{names-given}
 use Rattle.ntfs_check.proofs.marks.check_names.Goals as goal
 
