@@ -7,7 +7,7 @@ use Rattle.ntfs_record.specs.Slots.{Slot, begins_baad, is_in_use, record_in, tel
 use Rattle.ntfs_volume.specs.Located.{Located, idle, live_located, located_slot, sound_located, unsound_located}
 use Rattle.std.specs.Prelude.{List, not}
 use Rattle.std.specs.Borrow.{Bor}
-use Rattle.ntfs_check.specs.Records.{has_bit}
+use Rattle.ntfs_rules.specs.Records.{has_bit}
 use Rattle.ntfs_check.specs.declared.asked.Asked.{Asked}
 
 pub names-unread : (n : ℕ) (said : Option FileRecord) → said ≡ None → true ≡ passes_asked asked.Names n (live_located n said)

@@ -16,15 +16,15 @@ use Rattle.std.specs.Int.{div_ceil}
 use Rattle.std.proofs.lemmas.Grind.{div_ceil_times}
 use Rattle.ntfs_base.specs.Bytes.{cluster_at}
 use Rattle.ntfs_boot.specs.declared.geometry.Geometry.{Geometry}
-use Rattle.ntfs_check.proofs.ContentLemmas.{shown-stream}
-use Rattle.ntfs_check.specs.FixedRecords.{has_bytes, is_bitmap, is_solid}
+use Rattle.ntfs_rules.proofs.ContentLemmas.{shown-stream}
+use Rattle.ntfs_rules.specs.FixedRecords.{has_bytes, is_bitmap, is_solid}
 use Rattle.ntfs_runs.specs.Cells.{are_cells, map_cells}
 use Rattle.ntfs_stream.proofs.BoolLemmas.{and-left, and-right}
 use Rattle.ntfs_stream.specs.Putting.{shown_cells}
 use Rattle.ntfs_stream.specs.StreamBytes.{bytes_of_stream, filled_stream}
 use Rattle.ntfs_volume.specs.Streams.{Gathered, IsReadable, Stream}
-use Rattle.ntfs_check.specs.Clusters.{are_bits_of, holds_below, is_same_bit}
-use Rattle.ntfs_check.specs.Records.{has_bit}
+use Rattle.ntfs_rules.specs.Clusters.{are_bits_of, holds_below, is_same_bit}
+use Rattle.ntfs_rules.specs.Records.{has_bit}
 
 -- a bit of a piece is one of the whole
 pub bit-piece : (all buffer : List ℕ) (c p k : ℕ) → buffer ≡ take c (drop p all) → length buffer ≡ c → 0 < c → 8 * p ≤ k → k < 8 * p + 8 * c → bit_of buffer (k - 8 * p) ≡ has_bit all k
@@ -136,32 +136,6 @@ most-next vcn c cl n same below =
 
 pub bits-end : (vcn c cl n : ℕ) → cl ≡ c → n ≤ 8 * (vcn * cl) → n ≤ 8 * (vcn * c)
 bits-end vcn c cl n same past = let row : vcn * cl ≡ vcn * c = ap (λ x. vcn * x) same in omega (arith, row, past)
-
--- the part of a buffer that was written is all of it
-pub whole-buffer : (into rest : List ℕ) (n : ℕ) → length into ≡ n → take n (into ++ rest) ≡ into
-whole-buffer into rest n long = take_at into rest n long
-
--- ---- the front of a stream, one cluster more
-
-pub front-more : (all old new piece : List ℕ) (vcn c cl count most : ℕ) → cl ≡ c → vcn * cl < most → count ≡ min (most - vcn * cl) cl → old ≡ take (min (vcn * c) most) all → piece ≡ piece_at (vcn * c) c all
-    → new ≡ old ++ take count piece → new ≡ take (min ((vcn + 1) * c) most) all
-unfolding piece_at
-front-more all old new piece vcn c cl count most same below least front is added =
-    let row : vcn * cl ≡ vcn * c = ap (λ x. vcn * x) same in
-    let next : (vcn + 1) * c ≡ vcn * c + c = omega arith in
-    let before : min (vcn * c) most ≡ vcn * c = omega (arith, row, below) in
-    let after : min ((vcn + 1) * c) most ≡ vcn * c + count = omega (arith, row, below, next, least, same) in
-    added
-    ∙ ap (λ xs. xs ++ take count piece) (front ∙ ap (λ k. take k all) before)
-    ∙ ap (λ xs. take (vcn * c) all ++ xs) (ap (take count) is ∙ take-take count c (drop (vcn * c) all) (omega (arith, least, same)))
-    ∙ sym (take-add (vcn * c) count all)
-    ∙ ap (λ k. take k all) (sym after)
-
-pub count-next : (vcn c cl most : ℕ) → cl ≡ c → vcn * cl < most → (vcn + 1) * c < most + c
-count-next vcn c cl most same below =
-    let next : (vcn + 1) * c ≡ vcn * c + c = omega arith in
-    let row : vcn * cl ≡ vcn * c = ap (λ x. vcn * x) same in
-    omega (arith, next, row, below)
 
 -- ---- a whole stream
 

@@ -11,9 +11,10 @@ use Rattle.ntfs_base.specs.declared.refusal.Rule.TheVariants as rule
 use Rattle.ntfs_bitmap.proofs.RunsLemmas.{true_or_false}
 use Rattle.ntfs_bitmap.proofs.SetLemmas.{bound-set_where, has-set_where, set_where-same}
 use Rattle.ntfs_bitmap.specs.ClusterSet.{Clusters, IsTaken, bound_of, empty_set, has, in_run, set_where, with_claim}
-use Rattle.ntfs_check.specs.Clusters.{c8, count_if, first_double, is_owned, times}
-use Rattle.ntfs_check.specs.Outcome.{claimed_once, claimed_set, unless_number}
-use Rattle.ntfs_check.specs.declared.fault.CheckFault.TheVariants as check
+use Rattle.ntfs_rules.specs.Clusters.{c8, count_if, first_double, is_owned, times}
+use Rattle.ntfs_check.specs.Outcome.{claimed_once, claimed_set}
+use Rattle.ntfs_rules.specs.Outcome.{unless_number}
+use Rattle.ntfs_rules.specs.declared.fault.CheckFault.TheVariants as check
 use Rattle.ntfs_runs.specs.Clusters.{row}
 use Rattle.ntfs_survey.specs.Owned.{Claim, LiesBelow, cell_claims, owner_claims}
 use Rattle.ntfs_survey.specs.declared.owners.Owner.{Owner}

@@ -1,10 +1,6 @@
-mod DataLemmas
-mod AcceptsLemmas
 mod ClaimLemmas
 mod SearchLemmas
-mod ContentLemmas
 mod BitmapLemmas
 mod NameLemmas
 mod AskedLemmas
-mod FixedLemmas
 mod MarkLemmas

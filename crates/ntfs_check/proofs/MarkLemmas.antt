@@ -2,13 +2,13 @@
 use Rattle.std.proofs.Common.{◌≡◌, ℕ, List, Option, Result, refl, sym, ◌∙◌, subst}
 use Rattle.ntfs_base.specs.Frames.{Gives}
 use Rattle.ntfs_base.specs.declared.refusal.Rule.TheVariants as rule
-use Rattle.ntfs_check.proofs.DataLemmas.{c6-is}
+use Rattle.ntfs_rules.proofs.DataLemmas.{c6-is}
 use Rattle.ntfs_check.specs.Asked.{first_refused}
-use Rattle.ntfs_check.specs.Outcome.{check_origin, unless_number}
-use Rattle.ntfs_check.specs.Records.{c6}
-use Rattle.ntfs_check.specs.VolumeData.{volume_data}
+use Rattle.ntfs_rules.specs.Outcome.{check_origin, unless_number}
+use Rattle.ntfs_rules.specs.Records.{c6}
+use Rattle.ntfs_rules.specs.VolumeData.{volume_data}
 use Rattle.ntfs_check.specs.declared.asked.Asked.TheVariants as asked
-use Rattle.ntfs_check.specs.declared.fault.CheckFault.{CheckFault}
+use Rattle.ntfs_rules.specs.declared.fault.CheckFault.{CheckFault}
 use Rattle.ntfs_volume.specs.Located.{slots_of}
 use Rattle.ntfs_volume.specs.Opened.{Opened}
 

@@ -9,7 +9,7 @@ use Rattle.std.proofs.lemmas.Bool.Decides.{nat_tests}
 use Rattle.ntfs_base.specs.Bytes.{piece_at}
 use Rattle.ntfs_base.proofs.PieceLemmas.{length-piece, length-piece-le}
 use Rattle.ntfs_check.specs.Asked.{has_names_between, is_name_between}
-use Rattle.ntfs_check.specs.Records.{has_name_between}
+use Rattle.ntfs_rules.specs.Records.{has_name_between}
 use Rattle.ntfs_record.specs.Attribute.{IsRaw, name_at, resident_at, runs_at}
 use Rattle.ntfs_record.proofs.StandsLemmas.{same_fields}
 use Rattle.ntfs_record.specs.FileRecord.{Attribute, FileRecord, Laid}
@@ -180,25 +180,3 @@ pub own-within : (bytes raw : List ℕ) (place count : ℕ) → Stands place raw
 own-within bytes raw place count stands is within said =
     let fields = same_fields place raw bytes stands (omega (arith, is.sound.more, is.long)) in
     omega (arith, said, fields.long, is.long, within)
-
--- ---- a list among the attributes
-
-abbrev pub shows_list : Shown → Bool
-shows_list s = s.kind == 0x20
-
-pub list-found : (shown rest : List Shown) (x : Shown) (answer : Bool) → list_any shows_list shown ≡ answer → shown ≡ x ∷ rest → x.kind ≡ 0x20 → true ≡ answer
-list-found shown rest x answer same first is =
-    sym (ap (λ b. b || list_any shows_list rest) (is-it x.kind is)) ∙ sym (ap (list_any shows_list) first) ∙ same
-  where
-    is-it : (n : ℕ) → n ≡ 0x20 → (n == 0x20) ≡ true
-    is-it n is = grind (arith, nat_tests)
-
-pub list-passed : (shown rest : List Shown) (x : Shown) (answer : Bool) → list_any shows_list shown ≡ answer → shown ≡ x ∷ rest → (x.kind ≡ 0x20 → ⊥) → list_any shows_list rest ≡ answer
-list-passed shown rest x answer same first other =
-    sym (ap (λ b. b || list_any shows_list rest) (is-not x.kind other)) ∙ sym (ap (list_any shows_list) first) ∙ same
-  where
-    is-not : (n : ℕ) → (n ≡ 0x20 → ⊥) → (n == 0x20) ≡ false
-    is-not n is = grind (arith, nat_tests)
-
-pub list-none : (shown : List Shown) (answer : Bool) → list_any shows_list shown ≡ answer → shown ≡ [] → false ≡ answer
-list-none shown answer same none = sym (ap (list_any shows_list) none) ∙ same

@@ -1,13 +1,12 @@
 -- What is asked of each record in use, as the code asks it. The words are ours.
-use Rattle.std.specs.Prelude.{◌≡◌, ◌-◌, ◌==◌, ◌<◌, ◌≤◌, ◌||◌, not, ℕ, Bool, true, false, List, map, Option, Some, None}
-use Rattle.std.specs.List.{list_all, list_any}
+use Rattle.std.specs.Prelude.{◌≡◌, ◌-◌, ◌<◌, ◌≤◌, ◌||◌, not, ℕ, Bool, true, false, List, Option, Some, None}
+use Rattle.std.specs.List.{list_all}
 use Rattle.ntfs_base.specs.Bytes.{raw_of}
-use Rattle.ntfs_check.specs.Records.{has_bit, has_name_between}
+use Rattle.ntfs_rules.specs.Records.{has_bit, has_name_between}
 use Rattle.ntfs_check.specs.declared.asked.Asked.{Asked}
 use Rattle.ntfs_check.specs.declared.asked.Asked.TheVariants as asked
 use Rattle.ntfs_record.specs.FileRecord.{FileRecord, Laid}
 use Rattle.ntfs_record.specs.Slots.{Slot, first_not}
-use Rattle.ntfs_record.specs.Views.{Shown, placed_of, shown_placed}
 use Rattle.ntfs_survey.specs.Surveying.{record_at}
 use Rattle.ntfs_volume.specs.Located.{Located, located_attributes, located_of, located_slot, slots_of}
 use Rattle.ntfs_volume.specs.Opened.{Opened}
@@ -56,7 +55,3 @@ asked_in size bytes first question n = passes_asked question n (located_slot n (
 -- the first record of an opened volume of which it doesn't hold
 abbrev pub first_refused : Opened → (ℕ → List ℕ) → Asked → Option ℕ
 first_refused o f question = first_not (passes_asked question) 0 (slots_of o.geometry o.map f)
-
--- a record has an attribute list
-abbrev pub has_list_attribute : FileRecord → Bool
-has_list_attribute file = list_any (λ (s : Shown). s.kind == 0x20) (map shown_placed (placed_of file))

@@ -1,13 +1,5 @@
-pub use Rattle.ntfs_base.specs.Bytes
 pub use Rattle.ntfs_base.specs.Frames
-pub use Rattle.ntfs_survey.specs.Owned
-pub mod VolumeData
-pub mod Records
-pub mod Clusters
-pub mod Files
-pub mod Directories
-pub mod FixedRecords
-pub mod Accepts
+pub use Rattle.ntfs_rules.specs.Accepts
+pub use Rattle.ntfs_rules.specs.Outcome
 pub mod Outcome
 pub mod Asked
-pub mod Content

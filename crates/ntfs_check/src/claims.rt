@@ -3,10 +3,11 @@
 ghost use Rattle.std.specs.Prelude.{◌≡◌, All};
 ghost use Rattle.std.specs.List.{flat_map};
 ghost use Rattle.ntfs_base.specs.Frames.{Gives, IsJudged};
-ghost use Rattle.ntfs_check.specs.Outcome.{check_origin, claimed_once};
+ghost use Rattle.ntfs_check.specs.Outcome.{claimed_once};
+ghost use Rattle.ntfs_rules.specs.Outcome.{check_origin};
 ghost use Rattle.ntfs_survey.specs.Owned.{LiesBelow, owner_claims};
 
-use crate::fault::{CheckFault, damaged};
+use ntfs_rules::{CheckFault, damaged};
 use ntfs_base::Rule;
 use ntfs_bitmap::{ClaimFault, ClusterSet};
 use ntfs_survey::Owner;

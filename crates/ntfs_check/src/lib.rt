@@ -4,11 +4,5 @@
 mod asked;
 mod bitmap;
 mod claims;
-mod content;
-mod fault;
-mod fixed;
-pub mod laws;
 mod marks;
 mod search;
-
-pub use fault::CheckFault;

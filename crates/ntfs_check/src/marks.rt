@@ -4,14 +4,14 @@ ghost use Rattle.std.specs.Prelude.{◌≡◌};
 ghost use Rattle.ntfs_base.specs.Bytes.{cluster_at};
 ghost use Rattle.ntfs_base.specs.Frames.{Gives, IfTold, OnlyReads};
 ghost use Rattle.ntfs_check.specs.Asked.{first_refused};
-ghost use Rattle.ntfs_check.specs.Outcome.{check_origin, unless_number};
-ghost use Rattle.ntfs_check.specs.Records.{c6};
-ghost use Rattle.ntfs_check.specs.VolumeData.{volume_data};
+ghost use Rattle.ntfs_rules.specs.Outcome.{check_origin, unless_number};
+ghost use Rattle.ntfs_rules.specs.Records.{c6};
+ghost use Rattle.ntfs_rules.specs.VolumeData.{volume_data};
 ghost use Rattle.ntfs_base.specs.declared.refusal.Rule.TheVariants as rule;
 ghost use Rattle.ntfs_volume.specs.Opened.{HasClusters};
 
 use crate::asked::Asked;
-use crate::fault::{CheckFault, damaged};
+use ntfs_rules::{CheckFault, damaged};
 use crate::search::first_failing;
 use ntfs_base::{Image, Rule};
 use ntfs_volume::Table;

@@ -4,13 +4,13 @@ ghost use Rattle.std.specs.Prelude.{◌≡◌, ◌≤◌, ◌<◌, ◌+◌, ◌*
 ghost use Rattle.ntfs_base.specs.Bytes.{cluster_at};
 ghost use Rattle.ntfs_base.specs.Frames.{IfTold, IsSettled, OnlyReads};
 ghost use Rattle.ntfs_check.specs.Asked.{FindsFailing, asked_at, asked_in, first_refused};
-ghost use Rattle.ntfs_check.specs.Outcome.{check_origin};
+ghost use Rattle.ntfs_rules.specs.Outcome.{check_origin};
 ghost use Rattle.ntfs_fixup.specs.Fixups.{HasWholeStrides};
 ghost use Rattle.ntfs_volume.specs.Opened.{HasClusters};
 ghost use Rattle.ntfs_volume.specs.Scan.{scan_at, taken_count};
 
 use crate::asked::{Asked, passes};
-use crate::fault::CheckFault;
+use ntfs_rules::CheckFault;
 use ntfs_base::Image;
 use ntfs_volume::{Scan, Table};
 use std::alloc::{AllocError, Global};

@@ -1,9 +1,10 @@
 use Rattle.std.proofs.Common.{◌≡◌, ◌*◌, ◌∙◌, ap, sym, arith, length}
 use Rattle.ntfs_base.proofs.FramesLemmas.{told_still}
 use Rattle.ntfs_base.specs.Bytes.{piece_at}
-use Rattle.ntfs_check.proofs.BitmapLemmas.{bits-all, bits-end, bits-found, bits-passed, most-next, whole-buffer}
+use Rattle.ntfs_check.proofs.BitmapLemmas.{bits-all, bits-end, bits-found, bits-passed, most-next}
+use Rattle.ntfs_rules.proofs.ContentLemmas.{whole-buffer}
 use Rattle.ntfs_check.proofs.bitmap.are_bits_of.Goals as goal
-use Rattle.ntfs_check.specs.Content.{shown_bytes}
+use Rattle.ntfs_rules.specs.Content.{shown_bytes}
 
 pub returns-then-is_some-clause-found : goal.returns-then-is_some-clause-found
 returns-then-is_some-clause-found g c told =

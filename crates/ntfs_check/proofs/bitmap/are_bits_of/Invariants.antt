@@ -2,8 +2,8 @@ use Rattle.std.proofs.Common.{◌≡◌, ◌<◌, ◌-◌, ◌*◌, ◌+◌, ℕ
 use Rattle.std.specs.Prelude.{IsTrue, vec_len}
 use Rattle.ntfs_base.specs.Causes.{HaveNotFallen}
 use Rattle.ntfs_bitmap.specs.ClusterSet.{has}
-use Rattle.ntfs_check.specs.Content.{shown_bytes}
-use Rattle.ntfs_check.specs.Records.{has_bit}
+use Rattle.ntfs_rules.specs.Content.{shown_bytes}
+use Rattle.ntfs_rules.specs.Records.{has_bit}
 use Rattle.ntfs_check.proofs.bitmap.are_bits_of.Given as goal
 
 abbrev pub invariant-clusters : goal.invariant-clusters

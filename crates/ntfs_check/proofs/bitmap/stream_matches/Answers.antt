@@ -4,11 +4,11 @@ use Rattle.std.specs.Option.{option_map}
 use Rattle.ntfs_bitmap.specs.ClusterSet.{has}
 use Rattle.ntfs_boot.specs.Geometry.{bytes_of_clusters}
 use Rattle.ntfs_check.proofs.BitmapLemmas.{bitmap-bits, bitmap-room, bitmap-value}
-use Rattle.ntfs_check.proofs.ContentLemmas.{ok-weaker}
+use Rattle.ntfs_rules.proofs.ContentLemmas.{ok-weaker}
 use Rattle.ntfs_check.proofs.bitmap.stream_matches.Goals as goal
-use Rattle.ntfs_check.specs.Clusters.{are_bits_of}
-use Rattle.ntfs_check.specs.Content.{shown_bytes}
-use Rattle.ntfs_check.specs.FixedRecords.{is_bitmap}
+use Rattle.ntfs_rules.specs.Clusters.{are_bits_of}
+use Rattle.ntfs_rules.specs.Content.{shown_bytes}
+use Rattle.ntfs_rules.specs.FixedRecords.{is_bitmap}
 use Rattle.ntfs_runs.specs.Clusters.{vcns}
 use Rattle.ntfs_runs.specs.declared.run.Run.{Run}
 use Rattle.ntfs_stream.specs.StreamBytes.{bytes_of_stream, filled_stream}

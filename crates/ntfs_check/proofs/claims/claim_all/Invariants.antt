@@ -2,7 +2,7 @@ use Rattle.std.proofs.Common.{◌≡◌, drop, take}
 use Rattle.ntfs_bitmap.specs.ClusterSet.{bound_of}
 use Rattle.ntfs_check.proofs.ClaimLemmas.{claims_of}
 use Rattle.ntfs_check.proofs.claims.claim_all.Given as goal
-use Rattle.ntfs_check.specs.Clusters.{c8, first_double}
+use Rattle.ntfs_rules.specs.Clusters.{c8, first_double}
 use Rattle.ntfs_check.specs.Outcome.{claimed_set}
 
 abbrev pub invariant-owners : goal.invariant-owners

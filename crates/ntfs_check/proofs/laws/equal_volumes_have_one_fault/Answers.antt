@@ -1,5 +1,0 @@
-use Rattle.ntfs_check.proofs.AcceptsLemmas.{same-fault}
-use Rattle.ntfs_check.proofs.laws.equal_volumes_have_one_fault.Goals as goal
-
-pub returns : goal.returns
-returns c image other o p opened there same = same-fault image other o p opened there same

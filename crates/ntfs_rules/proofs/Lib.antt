@@ -1,0 +1,4 @@
+pub mod DataLemmas
+mod AcceptsLemmas
+pub mod ContentLemmas
+pub mod ListLemmas

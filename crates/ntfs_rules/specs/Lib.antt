@@ -1,0 +1,12 @@
+pub use Rattle.ntfs_base.specs.Bytes
+pub use Rattle.ntfs_base.specs.Frames
+pub use Rattle.ntfs_survey.specs.Owned
+pub mod VolumeData
+pub mod Records
+pub mod Clusters
+pub mod Files
+pub mod Directories
+pub mod FixedRecords
+pub mod Accepts
+pub mod Outcome
+pub mod Content
