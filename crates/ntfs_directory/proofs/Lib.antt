@@ -1,9 +1,9 @@
-mod ReadLemmas
-mod EmptyLemmas
-mod DirectoryLemmas
-mod AllocationLemmas
-mod NextLemmas
-mod LawLemmas
-mod UpCaseLemmas
-mod EntryLemmas
-mod PathLemmas
+pub mod ReadLemmas
+pub mod EmptyLemmas
+pub mod DirectoryLemmas
+pub mod AllocationLemmas
+pub mod NextLemmas
+pub mod LawLemmas
+pub mod UpCaseLemmas
+pub mod EntryLemmas
+pub mod PathLemmas

@@ -1,10 +1,10 @@
-mod OwnedLemmas
-mod ClaimLemmas
-mod OrderLemmas
-mod FoundLemmas
-mod FoldLemmas
-mod RecordLemmas
-mod SlotsLemmas
-mod BelowLemmas
-mod AgreeLemmas
-mod StreamLemmas
+pub mod OwnedLemmas
+pub mod ClaimLemmas
+pub mod OrderLemmas
+pub mod FoundLemmas
+pub mod FoldLemmas
+pub mod RecordLemmas
+pub mod SlotsLemmas
+pub mod BelowLemmas
+pub mod AgreeLemmas
+pub mod StreamLemmas

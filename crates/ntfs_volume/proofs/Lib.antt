@@ -1,22 +1,22 @@
-mod AnswerLemmas
-mod PieceLemmas
-mod ReadLemmas
-mod TableLemmas
-mod ScanLemmas
-mod FoundLemmas
-mod MapLemmas
-mod EntriesLemmas
-mod TableListLemmas
-mod TableMapLemmas
-mod ListLemmas
-mod LawLemmas
-mod ExtentsLemmas
-mod MappedLemmas
-mod StreamLemmas
-mod ToldLemmas
-mod GatherCells
-mod PartsLemmas
-mod GatherSteps
-mod GatherLemmas
-mod GatherItems
-mod FileLemmas
+pub mod AnswerLemmas
+pub mod PieceLemmas
+pub mod ReadLemmas
+pub mod TableLemmas
+pub mod ScanLemmas
+pub mod FoundLemmas
+pub mod MapLemmas
+pub mod EntriesLemmas
+pub mod TableListLemmas
+pub mod TableMapLemmas
+pub mod ListLemmas
+pub mod LawLemmas
+pub mod ExtentsLemmas
+pub mod MappedLemmas
+pub mod StreamLemmas
+pub mod ToldLemmas
+pub mod GatherCells
+pub mod PartsLemmas
+pub mod GatherSteps
+pub mod GatherLemmas
+pub mod GatherItems
+pub mod FileLemmas

@@ -63,7 +63,7 @@ fn bad_record(number: u64) -> VolumeFault
 }
 
 /// The number of the record that a reference names.
-fn target(reference: u64) -> u64
+pub fn target(reference: u64) -> u64
     ensures { result ≡ references.target reference }
 {
     reference % (1 << 48)
@@ -71,7 +71,7 @@ fn target(reference: u64) -> u64
 
 /// The reference names the record of this number and sequence number.
 #[tactic(auto, unfolding(crate::specs::References::matches))]
-fn matches(reference: u64, number: u64, sequence: u16) -> bool
+pub fn matches(reference: u64, number: u64, sequence: u16) -> bool
     ensures { result ≡ references.matches reference number sequence }
 {
     let turn = reference >> 48;
@@ -80,7 +80,7 @@ fn matches(reference: u64, number: u64, sequence: u16) -> bool
 
 /// A base reference names the record of this number and sequence number as the base.
 #[tactic(auto, unfolding(crate::specs::References::has_base))]
-fn has_base(base: u64, number: u64, sequence: u16) -> bool
+pub fn has_base(base: u64, number: u64, sequence: u16) -> bool
     ensures { result ≡ references.has_base base number sequence }
 {
     base != 0 && matches(base, number, sequence)

@@ -17,11 +17,14 @@ mod volume;
 mod wanted;
 
 pub use fault::VolumeFault;
+pub use gather::{has_base, matches, target};
+pub use list::{are_entries, read_list};
 pub use mft_map::read_table;
 pub use scan::Scan;
 pub use stream::Stream;
 pub use table::Table;
 pub use volume::{Volume, open_volume};
+pub use wanted::{Wanted, first_of};
 
 #[cfg(test)]
 mod gather_tests;

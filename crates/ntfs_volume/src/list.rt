@@ -1,4 +1,4 @@
-//! The attribute list of record 0.
+//! The attribute list of a record.
 
 ghost use Rattle.std.specs.Prelude.{◌≡◌, ◌≤◌, ◌<◌, ◌+◌, ◌*◌, ◌^◌, ◌==◌, if◌then◌else◌, ◌&&◌, ℕ, List, length, replicate, true, false, nat_le, IfOk, is_ok, Ok};
 ghost use Rattle.std.specs.Option.{ok_or};
@@ -44,7 +44,7 @@ pub(crate) fn have_room(cluster: u32, vcns: u64, size: u64, valid: u64) -> bool
 }
 
 /// All bytes of a list are entries.
-pub(crate) fn are_entries(list: &[u8]) -> bool
+pub fn are_entries(list: &[u8]) -> bool
     ensures { result ≡ is_ok (list_entries list.now) }
 {
     'entries: for item in entries(list) {
@@ -132,7 +132,7 @@ fn is_readable_list(cluster: u32, lowest: u64, next: u64, size: u64, valid: u64,
 }
 
 /// The bytes of a list of these sizes that isn't resident, where it is one extent of the record and can be read.
-pub(crate) fn read_list<G: Image>(
+pub fn read_list<G: Image>(
     alloc: Global,
     image: &mut G,
     geometry: &Geometry,

@@ -11,7 +11,7 @@ use ntfs_record::{AttributeView, Body, RecordView};
 
 /// Which attribute of a record is wanted.
 #[derive(Clone, Copy, PartialEq, Eq)]
-pub(crate) enum Wanted {
+pub enum Wanted {
     /// A list of attributes.
     List,
     /// The first extent of $MFT.
@@ -57,7 +57,7 @@ fn begins(body: &Body<'_>) -> bool
 }
 
 /// The first attribute of the record that is wanted.
-pub(crate) fn first_of<'a>(view: &RecordView<'a>, wanted: Wanted) -> Option<AttributeView<'a>>
+pub fn first_of<'a>(view: &RecordView<'a>, wanted: Wanted) -> Option<AttributeView<'a>>
     ensures found { option_map told_view result ≡ find (is_wanted wanted) (map told (attributes_of view.now)) }
     ensures lowest { IfSome result (λ attribute. (shown_body attribute.body).lowest ≤ 2 ^ 48) }
 {
