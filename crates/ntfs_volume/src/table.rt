@@ -5,9 +5,9 @@ ghost use Rattle.std.specs.Option.{ok_or};
 ghost use Rattle.ntfs_base.specs.Bytes.{cluster_at};
 ghost use Rattle.ntfs_base.specs.Frames.{Gives, IfTold, OnlyReads};
 ghost use Rattle.ntfs_boot.specs.Geometry.{IsGood};
-ghost use Rattle.ntfs_runs.specs.Clusters.{AreSpellable, AreWithin};
+ghost use Rattle.ntfs_runs.specs.Clusters.{AreSpellable, AreWithin, vcns};
 ghost use Rattle.ntfs_volume.specs.MftMap.{is_record_count, is_table};
-ghost use Rattle.ntfs_volume.specs.StreamBytes.{have_room};
+ghost use Rattle.ntfs_volume.specs.StreamBytes.{clusters_in, have_room};
 ghost use Rattle.ntfs_volume.specs.Fault.{volume_origin};
 ghost use Rattle.ntfs_volume.specs.Opened.{HasClusters, IsTable, fits_table, opened_by};
 ghost use Rattle.ntfs_volume.specs.Records.{raw_record, read_of, record_count};
@@ -21,7 +21,7 @@ use ntfs_base::{Image, Rule};
 use ntfs_boot::Geometry;
 use ntfs_fixup::{Magic, unfix};
 use ntfs_record::{is_in_use, parse};
-use ntfs_runs::RunList;
+use ntfs_runs::{Run, RunList};
 use std::marker::Model;
 
 /// Where the file records of a volume lie: its geometry and $MFT's map, as they were read.
@@ -100,6 +100,14 @@ impl Table {
         ensures { result ≡ scan_at self.now 0 }
     {
         Scan::new(self, self.runs.runs())
+    }
+
+    /// The runs of $MFT's map.
+    pub fn runs(&self) -> &[Run]
+        ensures clusters { clusters_in (vcns result.now) ≡ self.now.map.clusters }
+        ensures within { AreWithin result.now }
+    {
+        self.runs.runs()
     }
 
     /// The cluster of a VCN of $MFT, and none past its end.
