@@ -2,3 +2,6 @@ pub mod DataLemmas
 mod AcceptsLemmas
 pub mod ContentLemmas
 pub mod ListLemmas
+pub mod ClearLemmas
+pub mod CountLemmas
+pub mod OwnedLemmas

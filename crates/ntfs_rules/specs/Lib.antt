@@ -10,3 +10,4 @@ pub mod FixedRecords
 pub mod Accepts
 pub mod Outcome
 pub mod Content
+pub mod Laws
