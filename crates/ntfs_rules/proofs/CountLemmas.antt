@@ -25,9 +25,12 @@ count-next x k taken free most = elim (cases_eq x k) [
   | inr other ↦ omega (arith, most, count-other x k other)
 ]
 
+double-by : (b : Bool) (number : ℕ) (rest : Option ℕ) → (if b then rest else Some number) ≡ None → (b ≡ true) × (rest ≡ None)
+double-by true number rest is = (refl, is)
+double-by false number rest is = absurd cc
+
 double-parts : (n number : ℕ) (rest : Option ℕ) → (if n == 0 then rest else Some number) ≡ None → (n ≡ 0) × (rest ≡ None)
-double-parts zero number rest is = (refl, is)
-double-parts (suc n) number rest is = absurd cc
+double-parts n number rest is = let parts = double-by (n == 0) number rest is in (eqb-true n 0 parts.0, parts.1)
 
 single-from : (k : ℕ) (taken claims : List (Claim ℕ)) → first_double taken claims ≡ None → times k taken ≤ 1 → times k taken + times k claims ≤ 1
 unfolding first_double times
