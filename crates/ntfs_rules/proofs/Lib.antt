@@ -5,3 +5,4 @@ pub mod ListLemmas
 pub mod ClearLemmas
 pub mod CountLemmas
 pub mod OwnedLemmas
+pub mod CloneLemmas
