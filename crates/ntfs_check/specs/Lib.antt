@@ -3,3 +3,4 @@ pub use Rattle.ntfs_rules.specs.Accepts
 pub use Rattle.ntfs_rules.specs.Outcome
 pub mod Outcome
 pub mod Asked
+pub mod Marks

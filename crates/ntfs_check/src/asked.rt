@@ -26,7 +26,7 @@ pub(crate) enum Asked<'a> {
 }
 
 /// Bit `place` stands in the bytes and is 1.
-#[tactic(auto, unfolding(crate::specs::Records::has_bit))]
+#[tactic(auto, unfolding(ntfs_rules::specs::Records::has_bit))]
 pub(crate) fn has_bit(bits: &[u8], place: u64) -> bool
     ensures { result ≡ has_bit_in bits.now place }
 {
@@ -34,7 +34,7 @@ pub(crate) fn has_bit(bits: &[u8], place: u64) -> bool
 }
 
 /// The name of an attribute, which has these bytes, stands between its fields and its value or mapping pairs.
-#[tactic(auto, unfolding(crate::specs::Records::has_name_between))]
+#[tactic(auto, unfolding(ntfs_rules::specs::Records::has_name_between))]
 fn is_name_between(own: &[u8]) -> bool
     requires { IsRaw own.now }
     ensures { result ≡ is_name_between own.now }

@@ -4,5 +4,10 @@
 mod asked;
 mod bitmap;
 mod claims;
+mod clusters;
+mod gathered;
 mod marks;
 mod search;
+mod surveyed;
+
+pub use clusters::check_clusters;

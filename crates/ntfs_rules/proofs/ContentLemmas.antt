@@ -5,7 +5,8 @@ use Rattle.std.specs.Option.{option_map}
 use Rattle.std.proofs.lemmas.Bool.{leb-true, ltb-true}
 use Rattle.std.proofs.lemmas.List.{length-map, length-replicate, length-take, places, same_lists, take_at}
 use Rattle.std.proofs.lemmas.Option.{slice_get_within}
-use Rattle.std.proofs.Math.Seq.{drop-append-add}
+use Rattle.std.proofs.Math.Seq.{drop-append-add, take-add}
+use Rattle.ntfs_base.proofs.BytesLemmas.{take-take}
 use Rattle.ntfs_base.specs.Bytes.{cluster_at, piece_at}
 use Rattle.ntfs_runs.specs.Cells.{are_cells, is_cell, map_cells}
 use Rattle.ntfs_stream.proofs.BoolLemmas.{and-left, and-right}
