@@ -6,10 +6,10 @@ use Rattle.ntfs_base.specs.Shelf.{Files, file_of}
 use Rattle.ntfs_base.specs.Sink.{SinkState, after_put}
 use Rattle.ntfs_base.specs.declared.refusal.Named.TheVariants as named
 use Rattle.ntfs_show.specs.Cat.{cat_outcome, gathered_stream}
-use Rattle.ntfs_show.specs.Fault.{gather_refusal, stream_refusal}
-use Rattle.ntfs_show.specs.Printing.{Printing, end_of, printing_of}
-use Rattle.ntfs_show.specs.declared.fault.ShowFault.{ShowFault}
-use Rattle.ntfs_show.specs.declared.fault.ShowFault.TheVariants as show
+use Rattle.ntfs_print.specs.Fault.{gather_refusal, stream_refusal}
+use Rattle.ntfs_print.specs.Printing.{Printing, end_of, printing_of}
+use Rattle.ntfs_print.specs.declared.fault.ShowFault.{ShowFault}
+use Rattle.ntfs_print.specs.declared.fault.ShowFault.TheVariants as show
 use Rattle.ntfs_stream.specs.StreamBytes.{is_plain, stream_outcome}
 use Rattle.ntfs_stream.specs.declared.fault.StreamFault.TheVariants as stream
 use Rattle.ntfs_volume.specs.Fault.{volume_origin}

@@ -12,7 +12,7 @@ use Rattle.ntfs_boot.specs.Geometry.{image_origin, volume_geometry}
 use Rattle.ntfs_boot.specs.declared.volume.ImageFault.{ImageFault}
 use Rattle.ntfs_boot.specs.declared.volume.ImageFault.TheVariants as image
 use Rattle.ntfs_show.specs.Info.{info_lines}
-use Rattle.ntfs_show.specs.Printing.{Printing, Prints, end_of, printing_of, stops}
+use Rattle.ntfs_print.specs.Printing.{Printing, Prints, end_of, printing_of, stops}
 use Rattle.ntfs_volume.specs.Fault.{volume_origin}
 use Rattle.ntfs_volume.specs.Opened.{Opened, opened_of}
 use Rattle.ntfs_volume.specs.declared.fault.VolumeFault.{VolumeFault}
@@ -23,8 +23,8 @@ use Rattle.ntfs_show.specs.Cat.{cat_outcome}
 use Rattle.ntfs_words.specs.declared.request.Target.{Target}
 use Rattle.ntfs_run.specs.Place.{number_meant}
 use Rattle.ntfs_run.specs.Cat.{CatRefuses, cat_bytes}
-use Rattle.ntfs_show.specs.Owners.{owners_outcome}
-use Rattle.ntfs_show.specs.declared.owner_query.OwnerQuery.{OwnerQuery}
+use Rattle.ntfs_owners.specs.Owners.{owners_outcome}
+use Rattle.ntfs_owners.specs.declared.owner_query.OwnerQuery.{OwnerQuery}
 use Rattle.ntfs_words.specs.declared.request.Ask.{Ask}
 use Rattle.ntfs_run.specs.Cluster.{ClusterRefuses, owner_lines, query_of}
 use Rattle.ntfs_run.specs.Info.{GeometryRefuses, RecordRefuses, image_lines}
@@ -32,9 +32,9 @@ use Rattle.ntfs_run.specs.Ls.{ListRefuses}
 use Rattle.ntfs_run.specs.Outcome.{image_status, show_status, status_origin, volume_status}
 use Rattle.ntfs_run.specs.Show.{ShowRefuses, asks_geometry, image_printing, volume_printing}
 use Rattle.ntfs_show.specs.RecordInfo.{printing_after}
-use Rattle.ntfs_show.specs.Fault.{show_origin}
-use Rattle.ntfs_show.specs.declared.fault.ShowFault.{ShowFault}
-use Rattle.ntfs_show.specs.declared.fault.ShowFault.TheVariants as show
+use Rattle.ntfs_print.specs.Fault.{show_origin}
+use Rattle.ntfs_print.specs.declared.fault.ShowFault.{ShowFault}
+use Rattle.ntfs_print.specs.declared.fault.ShowFault.TheVariants as show
 use Rattle.ntfs_run.specs.Shown.{of_file, of_volume, with_status}
 use Rattle.ntfs_run.specs.declared.status.Status.{Status}
 use Rattle.ntfs_run.specs.declared.status.Status.TheVariants as status

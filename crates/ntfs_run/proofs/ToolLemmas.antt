@@ -13,7 +13,7 @@ use Rattle.ntfs_base.specs.declared.shelf.Shelf as shelf
 use Rattle.ntfs_base.specs.declared.sink.Sink as sink
 use Rattle.ntfs_base.proofs.AttachLemmas.{Rose-added, after_release-attached, has_name-attached}
 use Rattle.ntfs_base.proofs.SinkLemmas.{after_put-nil}
-use Rattle.ntfs_show.specs.Printing.{Prints, end_of, printing_of}
+use Rattle.ntfs_print.specs.Printing.{Prints, end_of, printing_of}
 use Rattle.ntfs_run.specs.Outcome.{Does, Outcome, OnlyShows, refused_with, status_origin}
 use Rattle.ntfs_run.specs.declared.status.Status.{Status}
 

@@ -2,9 +2,9 @@
 use Rattle.std.specs.Prelude.{ℕ, List, Result, Ok}
 use Rattle.ntfs_base.specs.Frames.{refused_as, ◌>>=◌}
 use Rattle.ntfs_base.specs.declared.refusal.Named.TheVariants as named
-use Rattle.ntfs_show.specs.Owners.{owners_outcome}
-use Rattle.ntfs_show.specs.declared.owner_query.OwnerQuery.{OwnerQuery}
-use Rattle.ntfs_show.specs.declared.owner_query.OwnerQuery.TheVariants as query
+use Rattle.ntfs_owners.specs.Owners.{owners_outcome}
+use Rattle.ntfs_owners.specs.declared.owner_query.OwnerQuery.{OwnerQuery}
+use Rattle.ntfs_owners.specs.declared.owner_query.OwnerQuery.TheVariants as query
 use Rattle.ntfs_volume.specs.Opened.{Opened}
 use Rattle.ntfs_words.specs.declared.request.Ask.{Ask}
 use Rattle.ntfs_words.specs.declared.request.Ask.TheVariants as ask

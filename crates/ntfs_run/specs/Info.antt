@@ -4,7 +4,7 @@ use Rattle.ntfs_base.specs.Frames.{refused_as, ◌>>=◌}
 use Rattle.ntfs_base.specs.declared.refusal.Named.TheVariants as named
 use Rattle.ntfs_boot.specs.Geometry.{volume_geometry}
 use Rattle.ntfs_show.specs.Info.{info_lines}
-use Rattle.ntfs_show.specs.Printing.{Printing}
+use Rattle.ntfs_print.specs.Printing.{Printing}
 use Rattle.ntfs_show.specs.RecordInfo.{record_printing}
 use Rattle.ntfs_volume.specs.Opened.{Opened}
 use Rattle.ntfs_run.specs.Outcome.{image_status}

@@ -2,7 +2,7 @@
 use Rattle.std.specs.Prelude.{ℕ, List, [], Option, Some, None}
 use Rattle.ntfs_base.specs.declared.refusal.Named.TheVariants as named
 use Rattle.ntfs_show.specs.ListPath.{list_outcome}
-use Rattle.ntfs_show.specs.Printing.{Printing}
+use Rattle.ntfs_print.specs.Printing.{Printing}
 use Rattle.ntfs_show.specs.declared.list_options.ListOptions.{ListOptions}
 use Rattle.ntfs_volume.specs.Opened.{Opened}
 use Rattle.ntfs_run.specs.Shown.{with_status}

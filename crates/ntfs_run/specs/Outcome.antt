@@ -17,9 +17,9 @@ use Rattle.ntfs_base.specs.declared.shelf.Shelf as shelf
 use Rattle.ntfs_base.specs.declared.sink.Sink as sink
 use Rattle.ntfs_boot.specs.declared.volume.ImageFault.{ImageFault}
 use Rattle.ntfs_boot.specs.declared.volume.ImageFault.TheVariants as image
-use Rattle.ntfs_show.specs.Printing.{Printing, end_of}
-use Rattle.ntfs_show.specs.declared.fault.ShowFault.{ShowFault}
-use Rattle.ntfs_show.specs.declared.fault.ShowFault.TheVariants as show
+use Rattle.ntfs_print.specs.Printing.{Printing, end_of}
+use Rattle.ntfs_print.specs.declared.fault.ShowFault.{ShowFault}
+use Rattle.ntfs_print.specs.declared.fault.ShowFault.TheVariants as show
 use Rattle.ntfs_directory.specs.declared.path_fault.PathFault.{PathFault}
 use Rattle.ntfs_directory.specs.declared.path_fault.PathFault.TheVariants as path
 use Rattle.ntfs_volume.specs.declared.fault.VolumeFault.{VolumeFault}

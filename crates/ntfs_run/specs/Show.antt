@@ -1,7 +1,7 @@
 -- What the requests of the tools that only show print: an arm for each tool. The words are ours.
 use Rattle.std.specs.Prelude.{ℕ, Bool, true, false, List, Some, None, if◌then◌else◌}
 use Rattle.ntfs_base.specs.declared.refusal.UsageKind.TheVariants as usage
-use Rattle.ntfs_show.specs.Printing.{Printing, printing_of, stops}
+use Rattle.ntfs_print.specs.Printing.{Printing, printing_of, stops}
 use Rattle.ntfs_volume.specs.Opened.{Opened}
 use Rattle.ntfs_words.specs.declared.request.Request.{Request}
 use Rattle.ntfs_words.specs.declared.request.Request.TheVariants as request

@@ -5,9 +5,9 @@ use Rattle.std.specs.Option.{ok_or, option_map}
 use Rattle.ntfs_base.specs.Frames.{refused_as}
 use Rattle.ntfs_base.specs.Shelf.{Files, file_of}
 use Rattle.ntfs_base.specs.declared.refusal.Named.TheVariants as named
-use Rattle.ntfs_show.specs.Printing.{Printing}
+use Rattle.ntfs_print.specs.Printing.{Printing}
 use Rattle.ntfs_show.specs.RecordInfo.{printing_after}
-use Rattle.ntfs_show.specs.declared.fault.ShowFault.{ShowFault}
+use Rattle.ntfs_print.specs.declared.fault.ShowFault.{ShowFault}
 use Rattle.ntfs_volume.specs.Opened.{Opened, opened_of}
 use Rattle.ntfs_run.specs.Outcome.{show_status, volume_status}
 use Rattle.ntfs_run.specs.declared.status.Status.{Status}

@@ -1,7 +1,7 @@
 //! `ntfscluster`.
 ghost use Rattle.std.specs.Prelude.{◌≡◌, IfErr};
 ghost use Rattle.ntfs_base.specs.Frames.{Copies, Gives, IfTold, OnlyReads, Puts, refused_as};
-ghost use Rattle.ntfs_show.specs.Owners.{owners_outcome};
+ghost use Rattle.ntfs_owners.specs.Owners.{owners_outcome};
 ghost use Rattle.ntfs_volume.specs.Opened.{HasClusters};
 ghost use Rattle.ntfs_run.specs.Cluster.{ClusterRefuses, owner_lines, query_of};
 ghost use Rattle.ntfs_run.specs.Outcome.{show_status, status_origin};

@@ -1,7 +1,7 @@
 //! `ntfsinfo`.
 ghost use Rattle.std.specs.Prelude.{◌≡◌, true, IfErr, OnOk};
 ghost use Rattle.ntfs_base.specs.Frames.{Copies, IfTold, Puts};
-ghost use Rattle.ntfs_show.specs.Printing.{Prints};
+ghost use Rattle.ntfs_print.specs.Printing.{Prints};
 ghost use Rattle.ntfs_volume.specs.Opened.{HasClusters};
 ghost use Rattle.ntfs_run.specs.Info.{GeometryRefuses, RecordRefuses, image_lines, record_lines};
 ghost use Rattle.ntfs_run.specs.Outcome.{status_origin};

@@ -1,7 +1,7 @@
 //! `ntfsls`.
 ghost use Rattle.std.specs.Prelude.{◌≡◌, IfErr};
 ghost use Rattle.ntfs_base.specs.Frames.{Copies, IfTold};
-ghost use Rattle.ntfs_show.specs.Printing.{Prints};
+ghost use Rattle.ntfs_print.specs.Printing.{Prints};
 ghost use Rattle.ntfs_volume.specs.Opened.{HasClusters};
 ghost use Rattle.ntfs_run.specs.Ls.{ListRefuses, list_lines, path_or_root};
 ghost use Rattle.ntfs_run.specs.Outcome.{status_origin};

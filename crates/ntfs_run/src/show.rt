@@ -1,7 +1,7 @@
 //! The tools that only show: what a request prints of an image, an arm for each tool.
 ghost use Rattle.std.specs.Prelude.{◌≡◌, [], true, false, IfErr, OnOk};
 ghost use Rattle.ntfs_base.specs.Frames.{Copies, IfFiles, IfTold};
-ghost use Rattle.ntfs_show.specs.Printing.{Prints};
+ghost use Rattle.ntfs_print.specs.Printing.{Prints};
 ghost use Rattle.ntfs_volume.specs.Opened.{HasClusters};
 ghost use Rattle.ntfs_run.specs.Outcome.{OnlyShows, status_origin};
 ghost use Rattle.ntfs_run.specs.Show.{ShowRefuses, asks_geometry, is_shown, image_printing, volume_printing};

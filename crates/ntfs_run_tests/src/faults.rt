@@ -36,6 +36,8 @@ const TWO_RUNS: [&str; 4] = ["ntfscat", "-i", "17", "v"];
 /// A volume whose clusters have 1,024 bytes.
 const MAKE: [&str; 5] = ["ntfsmake", "v", "2", "1024", "1024"];
 
+const HELLO: [&str; 3] = ["ntfscat", "v", "/resident.txt"];
+
 /// A call of the file.
 fn file_call(number: u64, leaves: Leaves) -> Plan {
     Plan {
@@ -153,6 +155,59 @@ fn a_fault_of_the_image_of_a_listed_stream_is_a_read_fault(rt: HostRuntime) -> R
     };
     let calls = each_read_fails(&rt, alloc, volume, &case)?;
     assert!(rt; calls >= 8);
+    Ok(())
+}
+
+/// Each call that a tool makes on a made volume fails alone: by a path the root's index is walked first. Where the first
+/// read fails, nothing was put.
+#[test]
+fn a_fault_of_the_image_by_a_path_is_a_read_fault(rt: HostRuntime) -> Result<(), Fail> {
+    let alloc = rt.alloc();
+    let made = run_over(alloc, &MAKE, None, NO_FAULT)?;
+    let volume = made.shelf.content("v").ok_or("no file")?;
+    let hello = Case {
+        words: &HELLO,
+        output: b"hello, ntfs\n",
+        line: "ntfscat: read fault\n",
+        ..READ_FAULT
+    };
+    let below = Case {
+        words: &["ntfsls", "-R", "-p", "Dir", "v"],
+        output: b"inner.txt\n",
+        line: "ntfsls: read fault\n",
+        ..READ_FAULT
+    };
+    for case in [hello, below] {
+        let calls = each_read_fails(&rt, alloc, volume, &case)?;
+        assert!(rt; calls >= 6);
+        let first = is_cut(
+            &rt,
+            alloc,
+            Some(volume),
+            file_call(2, Leaves::Before),
+            &case,
+        )?;
+        assert_eq!(rt; first.out.content.len(), 0);
+    }
+    Ok(())
+}
+
+/// The output of a stream that is found by its path fails after three bytes, which were put.
+#[test]
+fn a_fault_of_the_output_by_a_path_is_a_write_fault(rt: HostRuntime) -> Result<(), Fail> {
+    let alloc = rt.alloc();
+    let made = run_over(alloc, &MAKE, None, NO_FAULT)?;
+    let volume = made.shelf.content("v").ok_or("no file")?;
+    let case = Case {
+        words: &HELLO,
+        output: b"hello, ntfs\n",
+        line: "ntfscat: write fault\n",
+        ..WRITE_FAULT
+    };
+    let plan = out_call(1, Leaves::Front { bytes: 3 });
+    let ran = is_cut(&rt, alloc, Some(volume), plan, &case)?;
+    assert!(rt; ran.out.content.as_slice() == b"hel".as_slice());
+    assert_eq!(rt; ran.err.content.len(), case.line.len());
     Ok(())
 }
 

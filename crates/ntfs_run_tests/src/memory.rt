@@ -57,6 +57,67 @@ fn cat_is_whole(rt: &impl Abort, host: &HostRuntime) -> Result<bool, Fail> {
     Ok(false)
 }
 
+/// Runs a tool that shows over a made volume, by a path where it takes one: whether it was done. Where it wasn't, memory
+/// was wanting, a front of the output was put, and nothing is changed.
+fn show_is_done(
+    rt: &impl Abort,
+    host: &HostRuntime,
+    words: &[&str],
+    want: &[u8],
+    line: &[u8],
+) -> Result<bool, Fail> {
+    let alloc = host.alloc();
+    let make = ["ntfsmake", "v", "2", "1024", "1024"];
+    let Ok(made) = run_over(alloc, &make, None, NO_FAULT) else {
+        return Ok(false);
+    };
+    let Some(volume) = made.shelf.content("v") else {
+        return Ok(false);
+    };
+    let Ok(copy) = Vec::from_slice(alloc, volume) else {
+        return Ok(false);
+    };
+    let Ok(ran) = run_over(alloc, words, Some(copy), NO_FAULT) else {
+        return Ok(false);
+    };
+    if made.status != Status::Done {
+        return Ok(false);
+    }
+    assert!(rt; ran.shelf.content("v") == Some(volume));
+    if ran.status == Status::Done {
+        assert!(rt; ran.out.content.as_slice() == want);
+        return Ok(true);
+    }
+    assert_eq!(rt; ran.status, Status::NoMemory);
+    assert!(rt; want.starts_with(ran.out.content.as_slice()));
+    assert!(rt; line.starts_with(ran.err.content.as_slice()));
+    Ok(false)
+}
+
+/// Runs `ntfscat` with a path.
+fn path_is_whole(rt: &impl Abort, host: &HostRuntime) -> Result<bool, Fail> {
+    let words = ["ntfscat", "v", "Dir/inner.txt"];
+    show_is_done(rt, host, &words, b"inner\n", b"ntfscat: no memory\n")
+}
+
+/// Runs `ntfsls` with directories below.
+fn list_is_whole(rt: &impl Abort, host: &HostRuntime) -> Result<bool, Fail> {
+    let words = ["ntfsls", "-RFi", "--path=/Dir", "v"];
+    show_is_done(rt, host, &words, b"24 inner.txt\n", b"ntfsls: no memory\n")
+}
+
+/// Runs `ntfscluster` for a range.
+fn owners_are_whole(rt: &impl Abort, host: &HostRuntime) -> Result<bool, Fail> {
+    let words = ["ntfscluster", "--cluster", "0-0", "v"];
+    show_is_done(
+        rt,
+        host,
+        &words,
+        b"cluster 0 record 7 0x80 \"\" vcn 0\n",
+        b"ntfscluster: no memory\n",
+    )
+}
+
 /// The length of a volume of 1,024 clusters of 1,024 bytes, with the copy of its boot sector.
 const MADE_LEN: usize = 1_049_600;
 
@@ -95,5 +156,23 @@ fn with_ample_memory_ntfscat_is_done(rt: HostRuntime) -> Result<(), Fail> {
 #[test]
 fn with_ample_memory_ntfsmake_is_done(rt: HostRuntime) -> Result<(), Fail> {
     assert!(rt; make_is_whole(&rt, &rt)?);
+    Ok(())
+}
+
+#[test]
+fn with_ample_memory_ntfscat_by_a_path_is_done(rt: HostRuntime) -> Result<(), Fail> {
+    assert!(rt; path_is_whole(&rt, &rt)?);
+    Ok(())
+}
+
+#[test]
+fn with_ample_memory_ntfsls_is_done(rt: HostRuntime) -> Result<(), Fail> {
+    assert!(rt; list_is_whole(&rt, &rt)?);
+    Ok(())
+}
+
+#[test]
+fn with_ample_memory_ntfscluster_is_done(rt: HostRuntime) -> Result<(), Fail> {
+    assert!(rt; owners_are_whole(&rt, &rt)?);
     Ok(())
 }

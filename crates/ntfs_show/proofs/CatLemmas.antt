@@ -6,8 +6,8 @@ use Rattle.ntfs_stream.specs.declared.fault.StreamFault.TheVariants as stream
 use Rattle.ntfs_volume.specs.Opened.{Opened}
 use Rattle.ntfs_volume.specs.Streams.{Gathered}
 use Rattle.ntfs_show.specs.Cat.{cat_outcome, gathered_stream, shown_bytes}
-use Rattle.ntfs_show.specs.Fault.{show_origin, stream_refusal}
-use Rattle.ntfs_show.specs.declared.fault.ShowFault.{ShowFault}
+use Rattle.ntfs_print.specs.Fault.{show_origin, stream_refusal}
+use Rattle.ntfs_print.specs.declared.fault.ShowFault.{ShowFault}
 
 pub stream-origin : (fault : StreamFault) → show_origin (stream_refusal fault) ≡ stream_origin fault
 stream-origin (stream.NotPlain flags) = refl

@@ -7,11 +7,11 @@ use Rattle.ntfs_directory.specs.State.{left_of}
 use Rattle.ntfs_volume.specs.Opened.{Opened}
 use Rattle.ntfs_volume.specs.declared.fault.VolumeFault.{VolumeFault}
 use Rattle.ntfs_show.specs.Descent.{AreWalked, IsDescent, IsUp, MeetsOne, above_descent, after_present, around_present, below_descent, descent_most, front_of, left_above, left_in_level, left_of_descent, more_of_descent, unmet}
-use Rattle.ntfs_show.specs.Fault.{gather_refusal}
+use Rattle.ntfs_print.specs.Fault.{gather_refusal}
 use Rattle.ntfs_show.specs.ListState.{IsWalked, left_to_list}
 use Rattle.ntfs_show.specs.Listing.{Enter, Next, also_met, front_below, is_met, list_directory, list_entries, list_of, list_walk, nothing_more, record_numbers}
-use Rattle.ntfs_show.specs.Printing.{Printing, prints, stops}
-use Rattle.ntfs_show.specs.declared.fault.ShowFault.{ShowFault}
+use Rattle.ntfs_print.specs.Printing.{Printing, prints, stops}
+use Rattle.ntfs_print.specs.declared.fault.ShowFault.{ShowFault}
 use Rattle.ntfs_show.specs.declared.list_options.ListOptions.{ListOptions}
 use Rattle.ntfs_show.specs.declared.listing.Descent.{Descent}
 use Rattle.ntfs_show.specs.declared.listing.Level.{Level}

@@ -6,11 +6,11 @@ use Rattle.ntfs_base.specs.Sink.{SinkState, after_put}
 use Rattle.ntfs_base.specs.declared.fault.PutFault.{PutFault}
 use Rattle.ntfs_base.specs.declared.fault.PutFault.TheVariants as put
 use Rattle.ntfs_base.proofs.SinkLemmas.{after_put-append, after_put-nil}
-use Rattle.ntfs_show.specs.Fault.{show_fault, show_origin}
+use Rattle.ntfs_print.specs.Fault.{show_fault, show_origin}
 use Rattle.ntfs_show.specs.Progress.{Goes, Lists, Stops}
-use Rattle.ntfs_show.specs.Pending.{IsPrinted}
-use Rattle.ntfs_show.specs.Printing.{Printing, before, stops}
-use Rattle.ntfs_show.specs.declared.fault.ShowFault.{ShowFault}
+use Rattle.ntfs_print.specs.Pending.{IsPrinted}
+use Rattle.ntfs_print.specs.Printing.{Printing, before, stops}
+use Rattle.ntfs_print.specs.declared.fault.ShowFault.{ShowFault}
 
 -- ---- bytes before a printing
 

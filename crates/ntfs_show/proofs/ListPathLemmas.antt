@@ -8,14 +8,15 @@ use Rattle.ntfs_directory.specs.Paths.{directory_at, path_origin}
 use Rattle.ntfs_directory.specs.declared.path_fault.PathFault.{PathFault}
 use Rattle.ntfs_directory.specs.declared.path_fault.PathFault.TheVariants as path
 use Rattle.ntfs_volume.specs.Opened.{Opened}
-use Rattle.ntfs_show.specs.Fault.{show_origin}
-use Rattle.ntfs_show.specs.ListPath.{list_found, list_outcome, path_refusal}
+use Rattle.ntfs_print.specs.Fault.{show_origin}
+use Rattle.ntfs_show.specs.ListPath.{list_found, list_outcome}
+use Rattle.ntfs_print.specs.Fault.{path_refusal}
 use Rattle.ntfs_show.specs.Listing.{list_of}
-use Rattle.ntfs_show.specs.Printing.{Printing, Prints, before, end_of, prints, stops}
+use Rattle.ntfs_print.specs.Printing.{Printing, Prints, before, end_of, prints, stops}
 use Rattle.ntfs_show.specs.Progress.{Goes, Lists, Stops}
-use Rattle.ntfs_show.specs.declared.fault.ShowFault.{ShowFault}
+use Rattle.ntfs_print.specs.declared.fault.ShowFault.{ShowFault}
 use Rattle.ntfs_show.specs.declared.list_options.ListOptions.{ListOptions}
-use Rattle.ntfs_show.proofs.PendingLemmas.{prefix-behind, prefix-more, prefix-whole}
+use Rattle.ntfs_print.proofs.PendingLemmas.{prefix-behind, prefix-more, prefix-whole}
 
 -- ---- the path
 

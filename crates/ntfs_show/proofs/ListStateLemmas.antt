@@ -11,13 +11,13 @@ use Rattle.ntfs_volume.specs.References.{target}
 use Rattle.ntfs_volume.specs.Fault.{volume_origin}
 use Rattle.ntfs_volume.specs.declared.fault.VolumeFault.{VolumeFault}
 use Rattle.ntfs_volume.specs.declared.fault.VolumeFault.TheVariants as volume
-use Rattle.ntfs_show.specs.Fault.{gather_refusal, show_origin}
+use Rattle.ntfs_print.specs.Fault.{gather_refusal, show_origin}
 use Rattle.ntfs_show.specs.ListState.{Around, after_turn, below_to_list, left_to_list}
 use Rattle.ntfs_show.specs.Listing.{Next, entry_kind, entry_line, entry_path, front_below, is_entered, is_met, is_shown, list_below, list_end, list_entries, list_entry, list_given}
-use Rattle.ntfs_show.specs.Pending.{IsPrinted}
-use Rattle.ntfs_show.specs.Printing.{Printing, before, stops}
+use Rattle.ntfs_print.specs.Pending.{IsPrinted}
+use Rattle.ntfs_print.specs.Printing.{Printing, before, stops}
 use Rattle.ntfs_show.specs.Progress.{Goes, Stops}
-use Rattle.ntfs_show.specs.declared.fault.ShowFault.{ShowFault}
+use Rattle.ntfs_print.specs.declared.fault.ShowFault.{ShowFault}
 use Rattle.ntfs_show.specs.declared.list_options.ListOptions.{ListOptions}
 use Rattle.ntfs_show.specs.declared.list_walk.Turn.TheVariants as turn
 use Rattle.ntfs_show.proofs.ListLemmas.{goes-at, goes-none, goes-pushed, stops-at, stops-cut, stops-here}

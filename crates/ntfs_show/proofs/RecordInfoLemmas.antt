@@ -21,14 +21,14 @@ use Rattle.ntfs_survey.specs.Owned.{runs_in}
 use Rattle.ntfs_survey.specs.Surveying.{spells_cells}
 use Rattle.ntfs_volume.specs.Opened.{Opened}
 use Rattle.ntfs_volume.specs.Records.{read_of}
-use Rattle.ntfs_show.specs.Fault.{show_fault}
-use Rattle.ntfs_show.specs.Label.{kind_and_name}
-use Rattle.ntfs_show.specs.Pending.{IsPrinted, Pushes}
-use Rattle.ntfs_show.specs.Printing.{Printing, Prints, stops}
+use Rattle.ntfs_print.specs.Fault.{show_fault}
+use Rattle.ntfs_print.specs.Label.{kind_and_name}
+use Rattle.ntfs_print.specs.Pending.{IsPrinted, Pushes}
+use Rattle.ntfs_print.specs.Printing.{Printing, Prints, stops}
 use Rattle.ntfs_show.specs.RecordInfo.{IsCutOff, IsRecordRefusal, all_keep_cells, attribute_line, attribute_lines, block_printing, body_text, file_printing, has_right_cells, head_lines, line_if_right, record_printing, record_refusal, shown_attributes}
-use Rattle.ntfs_show.specs.declared.fault.ShowFault.{ShowFault}
-use Rattle.ntfs_show.specs.declared.fault.ShowFault.TheVariants as show
-use Rattle.ntfs_show.proofs.PendingLemmas.{pushes-none}
+use Rattle.ntfs_print.specs.declared.fault.ShowFault.{ShowFault}
+use Rattle.ntfs_print.specs.declared.fault.ShowFault.TheVariants as show
+use Rattle.ntfs_print.proofs.PendingLemmas.{pushes-none}
 
 -- ---- mapping pairs
 

@@ -7,8 +7,8 @@ use Rattle.ntfs_boot.specs.declared.geometry.Geometry.{Geometry}
 use Rattle.ntfs_stream.specs.StreamBytes.{stream_outcome}
 use Rattle.ntfs_volume.specs.Opened.{Opened}
 use Rattle.ntfs_volume.specs.Streams.{Gathered, Stream, gather_of}
-use Rattle.ntfs_show.specs.Fault.{gather_refusal, stream_refusal}
-use Rattle.ntfs_show.specs.declared.fault.ShowFault.{ShowFault}
+use Rattle.ntfs_print.specs.Fault.{gather_refusal, stream_refusal}
+use Rattle.ntfs_print.specs.declared.fault.ShowFault.{ShowFault}
 
 -- the stream of this type and name of record r of an opened volume
 abbrev pub gathered_stream : Opened → List ℕ → ℕ → ℕ → List ℕ → Result (Gathered ℕ) ShowFault

@@ -5,11 +5,11 @@ use Rattle.std.specs.BTreeMap.{is_at}
 use Rattle.std.specs.Ordering.{nat_cmp}
 use Rattle.ntfs_base.specs.Frames.{IsSettled}
 use Rattle.ntfs_volume.specs.Opened.{Opened}
-use Rattle.ntfs_show.specs.Fault.{show_origin}
+use Rattle.ntfs_print.specs.Fault.{show_origin}
 use Rattle.ntfs_show.specs.ListState.{Around, IsWalked, left_to_list}
 use Rattle.ntfs_show.specs.Listing.{Next, also_met, front_below, is_met, list_directory, nothing_more}
-use Rattle.ntfs_show.specs.Printing.{Printing, prints, stops}
-use Rattle.ntfs_show.specs.declared.fault.ShowFault.{ShowFault}
+use Rattle.ntfs_print.specs.Printing.{Printing, prints, stops}
+use Rattle.ntfs_print.specs.declared.fault.ShowFault.{ShowFault}
 use Rattle.ntfs_show.specs.declared.list_options.ListOptions.{ListOptions}
 use Rattle.ntfs_show.specs.declared.listing.Descent.{Descent}
 use Rattle.ntfs_show.specs.declared.listing.Level.{Level}

@@ -2,20 +2,12 @@
 use Rattle.std.specs.Prelude.{ℕ, List, Result, Ok, Err}
 use Rattle.ntfs_directory.specs.Paths.{directory_at}
 use Rattle.ntfs_directory.specs.declared.path_fault.PathFault.{PathFault}
-use Rattle.ntfs_directory.specs.declared.path_fault.PathFault.TheVariants as path
 use Rattle.ntfs_volume.specs.Opened.{Opened}
 use Rattle.ntfs_show.specs.Listing.{list_of}
-use Rattle.ntfs_show.specs.Printing.{Printing, stops}
-use Rattle.ntfs_show.specs.declared.fault.ShowFault.{ShowFault}
-use Rattle.ntfs_show.specs.declared.fault.ShowFault.TheVariants as show
+use Rattle.ntfs_print.specs.Fault.{path_refusal}
+use Rattle.ntfs_print.specs.Printing.{Printing, stops}
+use Rattle.ntfs_print.specs.declared.fault.ShowFault.{ShowFault}
 use Rattle.ntfs_show.specs.declared.list_options.ListOptions.{ListOptions}
-
--- a refusal of a path
-abbrev pub path_refusal : PathFault → ShowFault
-path_refusal (path.NotFound what) = show.NotFound what
-path_refusal (path.Damaged rule number) = show.Damaged rule number
-path_refusal path.ReadFault = show.ReadFault
-path_refusal path.NoMemory = show.NoMemory
 
 abbrev pub list_found : ListOptions → Opened → List ℕ → Result ℕ PathFault → Printing ShowFault
 list_found o v image (Ok start) = list_of o v image start

@@ -4,10 +4,10 @@ use Rattle.ntfs_base.specs.Frames.{IsSettled}
 use Rattle.ntfs_base.specs.Sink.{SinkState, after_put}
 use Rattle.ntfs_directory.specs.State.{DirectoryState, IsOn, answered, left_of}
 use Rattle.ntfs_volume.specs.Opened.{Opened}
-use Rattle.ntfs_show.specs.Fault.{show_origin}
+use Rattle.ntfs_print.specs.Fault.{show_origin}
 use Rattle.ntfs_show.specs.Listing.{Enter, Next, also_met, front_below, is_met, list_entries, record_numbers}
-use Rattle.ntfs_show.specs.Printing.{Printing, before, stops}
-use Rattle.ntfs_show.specs.declared.fault.ShowFault.{ShowFault}
+use Rattle.ntfs_print.specs.Printing.{Printing, before, stops}
+use Rattle.ntfs_print.specs.declared.fault.ShowFault.{ShowFault}
 use Rattle.ntfs_show.specs.declared.list_walk.Desk.{Desk}
 use Rattle.ntfs_show.specs.declared.list_options.ListOptions.{ListOptions}
 use Rattle.ntfs_show.specs.declared.list_walk.Turn.{Turn}

@@ -16,10 +16,10 @@ use Rattle.ntfs_upcase.specs.Names.{text_bytes}
 use Rattle.ntfs_volume.specs.Opened.{Opened}
 use Rattle.ntfs_volume.specs.References.{target}
 use Rattle.ntfs_volume.specs.declared.fault.VolumeFault.{VolumeFault}
-use Rattle.ntfs_show.specs.Fault.{gather_refusal}
-use Rattle.ntfs_show.specs.Info.{line_end}
-use Rattle.ntfs_show.specs.Printing.{Printing, before, prints, stops}
-use Rattle.ntfs_show.specs.declared.fault.ShowFault.{ShowFault}
+use Rattle.ntfs_print.specs.Fault.{gather_refusal}
+use Rattle.ntfs_print.specs.Numbers.{line_end}
+use Rattle.ntfs_print.specs.Printing.{Printing, before, prints, stops}
+use Rattle.ntfs_print.specs.declared.fault.ShowFault.{ShowFault}
 use Rattle.ntfs_show.specs.declared.list_options.ListOptions.{ListOptions}
 
 -- ---- which entries are shown, by their keys

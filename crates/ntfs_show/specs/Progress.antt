@@ -2,9 +2,9 @@
 use Rattle.std.specs.Prelude.{◌≡◌, ◌++◌, List, ℕ, Result, Ok, Err}
 use Rattle.ntfs_base.specs.Frames.{IsSettled}
 use Rattle.ntfs_base.specs.Sink.{SinkState, after_put}
-use Rattle.ntfs_show.specs.Fault.{show_origin}
-use Rattle.ntfs_show.specs.Printing.{Printing, before, stops}
-use Rattle.ntfs_show.specs.declared.fault.ShowFault.{ShowFault}
+use Rattle.ntfs_print.specs.Fault.{show_origin}
+use Rattle.ntfs_print.specs.Printing.{Printing, before, stops}
+use Rattle.ntfs_print.specs.declared.fault.ShowFault.{ShowFault}
 
 -- a front of what was to be printed was put, and the rest is left; each by whatever is around
 pub record Goes {I : Type 0} (told : Type 0) (old new : I → Printing ShowFault) (was now : SinkState) : Type 0 where

@@ -13,12 +13,12 @@ use Rattle.ntfs_base.specs.declared.sink.Sink as sink
 use Rattle.ntfs_record.specs.FileRecord.{FileRecord}
 use Rattle.ntfs_record.specs.Parsing.{parse_of}
 use Rattle.ntfs_record.specs.Views.{Shown, ShownBody, placed_of, shown_placed}
-use Rattle.ntfs_show.specs.Fault.{show_origin}
-use Rattle.ntfs_show.specs.Info.{line_end}
-use Rattle.ntfs_show.specs.Label.{kind_and_name}
-use Rattle.ntfs_show.specs.Printing.{Printing, stops}
-use Rattle.ntfs_show.specs.declared.fault.ShowFault.{ShowFault}
-use Rattle.ntfs_show.specs.declared.fault.ShowFault.TheVariants as show
+use Rattle.ntfs_print.specs.Fault.{show_origin}
+use Rattle.ntfs_print.specs.Numbers.{line_end}
+use Rattle.ntfs_print.specs.Label.{kind_and_name}
+use Rattle.ntfs_print.specs.Printing.{Printing, stops}
+use Rattle.ntfs_print.specs.declared.fault.ShowFault.{ShowFault}
+use Rattle.ntfs_print.specs.declared.fault.ShowFault.TheVariants as show
 use Rattle.ntfs_show.specs.declared.record_info.Caption.{Caption}
 use Rattle.ntfs_show.specs.declared.record_info.Caption.TheVariants.{Number, Sequence, Links, Flags, Base, InUse, Resident, Vcn, To, Size, Valid, Runs}
 use Rattle.ntfs_survey.specs.Owned.{runs_in}

@@ -2,7 +2,7 @@
 
 ghost use Rattle.std.specs.Prelude.{◌≡◌, ◌++◌, OnOk};
 ghost use Rattle.ntfs_directory.specs.Entries.{key_name};
-ghost use Rattle.ntfs_show.specs.Info.{line_end};
+ghost use Rattle.ntfs_print.specs.Numbers.{line_end};
 ghost use Rattle.ntfs_show.specs.Listing.{entry_line, entry_path, kind_text, number_text};
 ghost use Rattle.ntfs_upcase.specs.Names.{text_bytes};
 

@@ -2,36 +2,20 @@
 
 ghost use Rattle.std.specs.Prelude.{◌≡◌, [], IsTrue, vec_len};
 ghost use Rattle.ntfs_base.specs.Frames.{Copies, IfTold};
-ghost use Rattle.ntfs_show.specs.Fault.{show_origin};
-ghost use Rattle.ntfs_show.specs.ListPath.{list_outcome, path_refusal};
-ghost use Rattle.ntfs_show.specs.Printing.{Prints, before, prints};
+ghost use Rattle.ntfs_print.specs.Fault.{show_origin};
+ghost use Rattle.ntfs_show.specs.ListPath.{list_outcome};
+ghost use Rattle.ntfs_print.specs.Printing.{Prints, before, prints};
 ghost use Rattle.ntfs_show.specs.Progress.{Lists};
 ghost use Rattle.ntfs_volume.specs.Opened.{HasClusters};
 
-use crate::fault::ShowFault;
 use crate::list_options::ListOptions;
 use crate::list_walk::Desk;
 use crate::listing::list_from;
 use ntfs_base::{Image, Sink};
-use ntfs_directory::{PathFault, directory_at};
+use ntfs_directory::directory_at;
+use ntfs_print::ShowFault;
 use ntfs_volume::{Table, Volume};
 use std::alloc::Global;
-
-impl From<PathFault> for ShowFault {
-    ghost use Rattle.std.specs.Prelude.{◌≡◌};
-    ghost use Rattle.ntfs_show.specs.ListPath.{path_refusal};
-
-    ghost from_gives = { λ fault show. show ≡ path_refusal fault };
-
-    fn from(fault: PathFault) -> ShowFault {
-        match fault {
-            PathFault::NotFound { what } => ShowFault::NotFound { what },
-            PathFault::Damaged { rule, number } => ShowFault::Damaged { rule, number },
-            PathFault::ReadFault => ShowFault::ReadFault,
-            PathFault::NoMemory => ShowFault::NoMemory,
-        }
-    }
-}
 
 /// Prints what is shown of the directory that a path names.
 fn list_path<G: Image, K: Sink>(

@@ -4,23 +4,21 @@ ghost use Rattle.std.specs.Prelude.{◌≡◌, ◌<◌, Bool, IsTrue, IfOk, OnOk
 ghost use Rattle.ntfs_base.specs.Frames.{Copies, Gives, IfTold, OnlyPuts, OnlyReads};
 ghost use Rattle.ntfs_base.specs.Sink.{Put};
 ghost use Rattle.ntfs_index.specs.State.{entries_most};
-ghost use Rattle.ntfs_show.specs.Fault.{show_origin};
+ghost use Rattle.ntfs_print.specs.Fault.{show_origin};
 ghost use Rattle.ntfs_show.specs.ListState.{Around, IfGiven, IsNew, IsNewTurn, IsSameDesk, IsWalked, after_entries, after_turn, below_to_list, left_to_list};
 ghost use Rattle.ntfs_show.specs.Listing.{entry_kind, front_below, list_entry, list_given, record_numbers};
-ghost use Rattle.ntfs_show.specs.Pending.{put_origin};
-ghost use Rattle.ntfs_show.specs.Printing.{Printing, before};
+ghost use Rattle.ntfs_print.specs.Pending.{put_origin};
+ghost use Rattle.ntfs_print.specs.Printing.{Printing, before};
 ghost use Rattle.ntfs_show.specs.Progress.{Lists};
-ghost use Rattle.ntfs_show.specs.declared.fault.ShowFault.{ShowFault as Fault};
+ghost use Rattle.ntfs_print.specs.declared.fault.ShowFault.{ShowFault as Fault};
 ghost use Rattle.ntfs_volume.specs.Opened.{HasClusters};
 ghost use Rattle.ntfs_volume.specs.References.{target};
 
-use crate::fault::{ShowFault, gather_refusal};
 use crate::list_line::build_line;
 use crate::list_options::{ListOptions, is_entered, is_shown};
-use crate::pending::Pending;
-use crate::streams::zeros;
 use ntfs_base::{Image, PutFault, Sink};
 use ntfs_directory::{Directory, read_entry};
+use ntfs_print::{Pending, ShowFault, gather_refusal, zeros};
 use ntfs_volume::Table;
 use std::alloc::{AllocError, Global};
 use std::collections::BTreeSet;

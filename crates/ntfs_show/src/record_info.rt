@@ -6,21 +6,18 @@ ghost use Rattle.ntfs_base.specs.Frames.{Copies, Gives, IfTold, OnlyReads, refus
 ghost use Rattle.ntfs_record.specs.Views.{shown_body, shown_view};
 ghost use Rattle.ntfs_runs.specs.Cells.{are_cells};
 ghost use Rattle.ntfs_runs.specs.Clusters.{AreSpellable, vcns};
-ghost use Rattle.ntfs_show.specs.Fault.{show_origin};
-ghost use Rattle.ntfs_show.specs.Label.{kind_and_name};
-ghost use Rattle.ntfs_show.specs.Pending.{Pushes};
-ghost use Rattle.ntfs_show.specs.Printing.{Prints};
+ghost use Rattle.ntfs_print.specs.Fault.{show_origin};
+ghost use Rattle.ntfs_print.specs.Label.{kind_and_name};
+ghost use Rattle.ntfs_print.specs.Pending.{Pushes};
+ghost use Rattle.ntfs_print.specs.Printing.{Prints};
 ghost use Rattle.ntfs_show.specs.RecordInfo.{IsCutOff, IsRecordRefusal, OnlyPrints, all_keep_cells, attribute_lines, block_printing, body_text, caption_text, captioned, captioned_line, file_printing, has_right_cells, head_lines, highest_text, keeps_cells, line_if_right, record_printing, record_refusal, resident_text, runs_text, shown_attributes};
 ghost use Rattle.ntfs_survey.specs.Owned.{runs_in};
 ghost use Rattle.ntfs_survey.specs.Surveying.{spells_cells};
 ghost use Rattle.ntfs_volume.specs.Opened.{HasClusters};
 ghost use Rattle.ntfs_volume.specs.Records.{read_of};
 
-use crate::fault::ShowFault;
-use crate::label::kind_and_name;
-use crate::pending::Pending;
-use crate::streams::zeros;
 use ntfs_base::{Image, Line, Missing, Rule, Sink};
+use ntfs_print::{Pending, ShowFault, kind_and_name, zeros};
 use ntfs_record::{AttributeView, Body, RecordView, parse};
 use ntfs_runs::{PairsFault, RunList, decode};
 use ntfs_volume::{Table, Volume, VolumeFault};

@@ -1,26 +1,19 @@
 //! The bytes of a record's stream, put.
 
-ghost use Rattle.std.specs.Prelude.{◌≡◌, vec_len, IfOk};
+ghost use Rattle.std.specs.Prelude.{◌≡◌};
 ghost use Rattle.ntfs_base.specs.Frames.{Copies, Gives, IfTold, OnlyReads, Puts};
 ghost use Rattle.ntfs_boot.specs.Geometry.{IsOpened};
 ghost use Rattle.ntfs_show.specs.Cat.{cat_outcome, gathered_stream, shown_bytes};
-ghost use Rattle.ntfs_show.specs.Fault.{show_origin};
+ghost use Rattle.ntfs_print.specs.Fault.{show_origin};
 ghost use Rattle.ntfs_volume.specs.Opened.{HasClusters};
 ghost use Rattle.ntfs_volume.specs.Streams.{IsReadable};
 
-use crate::fault::{ShowFault, gather_refusal};
 use ntfs_base::{Image, Sink};
 use ntfs_boot::Geometry;
+use ntfs_print::{ShowFault, gather_refusal, zeros};
 use ntfs_stream::put_stream;
 use ntfs_volume::{Stream, Table, Volume};
-use std::alloc::{AllocError, Global};
-
-/// So many bytes of 0.
-pub(crate) fn zeros(alloc: Global, count: usize) -> Result<Vec<u8>, AllocError>
-    ensures { IfOk result (λ bytes. vec_len bytes ≡ count) }
-{
-    vec![in alloc; 0; count]
-}
+use std::alloc::Global;
 
 /// Gathers the stream of a type and name of a record.
 fn gather<G: Image>(

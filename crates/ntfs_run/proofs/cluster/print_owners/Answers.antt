@@ -2,7 +2,7 @@ use Rattle.std.proofs.Common.{sym, subst}
 use Rattle.std.proofs.lemmas.Result.{err_from_is_err_and}
 use Rattle.ntfs_base.specs.Frames.{Puts, refused_as}
 use Rattle.ntfs_base.proofs.FramesLemmas.{puts_none, told_still}
-use Rattle.ntfs_show.specs.Owners.{owners_outcome}
+use Rattle.ntfs_owners.specs.Owners.{owners_outcome}
 use Rattle.ntfs_run.specs.Outcome.{show_status, status_origin}
 use Rattle.ntfs_run.proofs.ShowLemmas.{asked_lines, unasked_lines}
 use Rattle.ntfs_run.proofs.cluster.print_owners.Goals as goal

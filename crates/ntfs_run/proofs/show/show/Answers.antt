@@ -1,6 +1,6 @@
 use Rattle.std.proofs.Common.{IsTrue, sym, subst, ◌∙◌}
 use Rattle.std.proofs.lemmas.Result.{err_from_is_err_and}
-use Rattle.ntfs_show.specs.Printing.{Prints}
+use Rattle.ntfs_print.specs.Printing.{Prints}
 use Rattle.ntfs_run.specs.Outcome.{status_origin}
 use Rattle.ntfs_run.specs.Show.{ShowRefuses, image_printing}
 use Rattle.ntfs_run.proofs.ShowLemmas.{absent, held, prints_none}

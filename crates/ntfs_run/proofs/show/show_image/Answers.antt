@@ -1,5 +1,5 @@
 use Rattle.std.proofs.Common.{sym, subst, ◌∙◌}
-use Rattle.ntfs_show.specs.Printing.{Prints}
+use Rattle.ntfs_print.specs.Printing.{Prints}
 use Rattle.ntfs_run.specs.Info.{image_lines}
 use Rattle.ntfs_run.specs.Outcome.{status_origin}
 use Rattle.ntfs_run.proofs.ShowLemmas.{geometry_printing, geometry_refuses, opened_printing}

@@ -1,7 +1,7 @@
 use Rattle.std.proofs.Common.{sym, subst}
 use Rattle.std.proofs.lemmas.Result.{err_from_is_err_and}
 use Rattle.ntfs_base.proofs.FramesLemmas.{told_still}
-use Rattle.ntfs_show.specs.Printing.{Prints}
+use Rattle.ntfs_print.specs.Printing.{Prints}
 use Rattle.ntfs_run.specs.Outcome.{status_origin}
 use Rattle.ntfs_run.specs.Show.{volume_printing}
 use Rattle.ntfs_run.proofs.ShowLemmas.{open_refuses, opened, prints_none, unopened}

@@ -2,7 +2,7 @@ use Rattle.std.proofs.Common.{IsTrue, ap}
 use Rattle.std.proofs.lemmas.Result.{err_from_is_err_and}
 use Rattle.ntfs_show.specs.ListPath.{list_outcome}
 use Rattle.ntfs_show.specs.Listing.{list_of}
-use Rattle.ntfs_show.specs.Printing.{before}
+use Rattle.ntfs_print.specs.Printing.{before}
 use Rattle.ntfs_show.proofs.ListLemmas.{lists-as, stops-here}
 use Rattle.ntfs_show.proofs.ListPathLemmas.{path-found, path-refused, path-settled}
 use Rattle.ntfs_show.proofs.list_path.list_path.Goals as goal

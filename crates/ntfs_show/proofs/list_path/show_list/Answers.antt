@@ -1,10 +1,10 @@
 use Rattle.std.proofs.Common.{IsTrue}
 use Rattle.std.proofs.lemmas.Result.{err_from_is_err_and}
-use Rattle.ntfs_show.specs.Fault.{show_origin}
+use Rattle.ntfs_print.specs.Fault.{show_origin}
 use Rattle.ntfs_show.specs.ListPath.{list_outcome}
 use Rattle.ntfs_show.proofs.ListLemmas.{put-never}
 use Rattle.ntfs_show.proofs.ListPathLemmas.{list-put, list-unput}
-use Rattle.ntfs_show.proofs.PendingLemmas.{prints-none}
+use Rattle.ntfs_print.proofs.PendingLemmas.{prints-none}
 use Rattle.ntfs_show.proofs.list_path.show_list.Goals as goal
 
 pub returns-in_err-desk-clause-told : goal.returns-in_err-desk-clause-told

@@ -3,7 +3,7 @@ use Rattle.ntfs_base.specs.Causes.{HaveNotFallen}
 use Rattle.ntfs_base.specs.Frames.{SinkHasNotFallen}
 use Rattle.ntfs_index.specs.State.{entries_most}
 use Rattle.ntfs_show.specs.ListState.{Around, IsSameDesk, IsWalked, left_to_list}
-use Rattle.ntfs_show.specs.Printing.{before}
+use Rattle.ntfs_print.specs.Printing.{before}
 use Rattle.ntfs_show.specs.Progress.{Goes}
 use Rattle.ntfs_show.proofs.list_walk.show_entries.Given as goal
 

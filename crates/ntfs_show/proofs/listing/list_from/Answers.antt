@@ -2,7 +2,7 @@ use Rattle.std.proofs.Common.{IsTrue, ap, ◌∙◌}
 use Rattle.std.proofs.lemmas.Result.{err_from_is_err_and}
 use Rattle.ntfs_show.specs.Descent.{left_of_descent}
 use Rattle.ntfs_show.specs.Listing.{list_of, record_numbers}
-use Rattle.ntfs_show.specs.Printing.{before}
+use Rattle.ntfs_print.specs.Printing.{before}
 use Rattle.ntfs_show.proofs.DescentLemmas.{list-begins}
 use Rattle.ntfs_show.proofs.ListLemmas.{lists-as, stops-here}
 use Rattle.ntfs_show.proofs.listing.list_from.Goals as goal

@@ -1,9 +1,9 @@
 use Rattle.std.proofs.Common.{◌++◌, true}
 use Rattle.std.proofs.lemmas.Result.{err_from_is_err_and}
 use Rattle.ntfs_record.specs.Views.{shown_view}
-use Rattle.ntfs_show.specs.Label.{kind_and_name}
+use Rattle.ntfs_print.specs.Label.{kind_and_name}
 use Rattle.ntfs_show.specs.RecordInfo.{line_if_right}
-use Rattle.ntfs_show.proofs.PendingLemmas.{pushes-stop}
+use Rattle.ntfs_print.proofs.PendingLemmas.{pushes-stop}
 use Rattle.ntfs_show.proofs.RecordInfoLemmas.{line-right, pushes-failed, pushes-passed, pushes-wrong}
 use Rattle.ntfs_show.proofs.record_info.push_attribute.Goals as goal
 

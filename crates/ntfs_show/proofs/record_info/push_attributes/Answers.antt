@@ -1,9 +1,9 @@
 use Rattle.std.proofs.Common.{◌++◌, ◌∙◌, ap, arith, map, refl, subst, sym}
 use Rattle.std.proofs.lemmas.Result.{err_from_is_err_and}
 use Rattle.ntfs_record.specs.Views.{shown_placed, shown_view}
-use Rattle.ntfs_show.specs.Pending.{IsPrinted}
+use Rattle.ntfs_print.specs.Pending.{IsPrinted}
 use Rattle.ntfs_show.specs.RecordInfo.{all_keep_cells, attribute_lines, line_if_right, shown_attributes}
-use Rattle.ntfs_show.proofs.PendingLemmas.{printed-cut, printed-kept, printed-step}
+use Rattle.ntfs_print.proofs.PendingLemmas.{printed-cut, printed-kept, printed-step}
 use Rattle.ntfs_show.proofs.RecordInfoLemmas.{keep-end, keep-next, keep-stop, left-cut, left-end, left-next, left-stop, lines_behind}
 use Rattle.ntfs_show.proofs.record_info.push_attributes.Goals as goal
 

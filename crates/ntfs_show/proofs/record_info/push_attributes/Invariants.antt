@@ -1,7 +1,7 @@
 use Rattle.std.proofs.Common.{◌≡◌, ℕ, List, ◌++◌, map}
 use Rattle.ntfs_base.specs.Frames.{SinkHasNotFallen}
 use Rattle.ntfs_record.specs.Views.{shown_placed}
-use Rattle.ntfs_show.specs.Pending.{IsPrinted}
+use Rattle.ntfs_print.specs.Pending.{IsPrinted}
 use Rattle.ntfs_show.specs.RecordInfo.{all_keep_cells, attribute_lines, shown_attributes}
 use Rattle.ntfs_show.proofs.record_info.push_attributes.Given as goal
 

@@ -1,7 +1,7 @@
 use Rattle.std.proofs.Common.{◌++◌, ◌∙◌}
 use Rattle.std.proofs.lemmas.Result.{err_from_is_err_and}
-use Rattle.ntfs_show.specs.Label.{kind_and_name}
-use Rattle.ntfs_show.proofs.PendingLemmas.{pushes-stop, pushes-then}
+use Rattle.ntfs_print.specs.Label.{kind_and_name}
+use Rattle.ntfs_print.proofs.PendingLemmas.{pushes-stop, pushes-then}
 use Rattle.ntfs_show.proofs.RecordInfoLemmas.{both-same, pushes-failed, pushes-passed}
 use Rattle.ntfs_show.proofs.record_info.push_line.Goals as goal
 

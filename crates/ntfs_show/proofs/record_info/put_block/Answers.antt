@@ -1,9 +1,9 @@
 use Rattle.std.proofs.Common.{ap, sym}
-use Rattle.ntfs_show.specs.Fault.{show_origin}
-use Rattle.ntfs_show.specs.Printing.{Printing}
+use Rattle.ntfs_print.specs.Fault.{show_origin}
+use Rattle.ntfs_print.specs.Printing.{Printing}
 use Rattle.ntfs_show.specs.RecordInfo.{block_printing}
-use Rattle.ntfs_show.specs.declared.fault.ShowFault.{ShowFault}
-use Rattle.ntfs_show.proofs.PendingLemmas.{prints-none}
+use Rattle.ntfs_print.specs.declared.fault.ShowFault.{ShowFault}
+use Rattle.ntfs_print.proofs.PendingLemmas.{prints-none}
 use Rattle.ntfs_show.proofs.RecordInfoLemmas.{block-refused}
 use Rattle.ntfs_show.proofs.record_info.put_block.Goals as goal
 

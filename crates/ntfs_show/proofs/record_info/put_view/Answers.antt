@@ -1,10 +1,10 @@
 use Rattle.std.proofs.Common.{[], ◌++◌, ◌∙◌, ap, refl, sym}
 use Rattle.std.proofs.lemmas.List.{append-nil}
 use Rattle.std.proofs.lemmas.Result.{err_from_is_err_and}
-use Rattle.ntfs_show.specs.Fault.{show_origin}
-use Rattle.ntfs_show.specs.Printing.{end_of}
+use Rattle.ntfs_print.specs.Fault.{show_origin}
+use Rattle.ntfs_print.specs.Printing.{end_of}
 use Rattle.ntfs_show.specs.RecordInfo.{attribute_lines, file_printing, head_lines, shown_attributes}
-use Rattle.ntfs_show.proofs.PendingLemmas.{printed-start, printed-step, prints-cut, prints-end, prints-end-cut, prints-stop}
+use Rattle.ntfs_print.proofs.PendingLemmas.{printed-start, printed-step, prints-cut, prints-end, prints-end-cut, prints-stop}
 use Rattle.ntfs_show.proofs.RecordInfoLemmas.{file-output, file-right, file-wrong, printed-first, put-cut}
 use Rattle.ntfs_show.proofs.record_info.put_view.Goals as goal
 

@@ -1,11 +1,11 @@
 use Rattle.std.proofs.Common.{◌∙◌, ap, sym}
 use Rattle.std.proofs.lemmas.Result.{err_from_is_err_and}
 use Rattle.ntfs_boot.specs.declared.geometry.Geometry.{Geometry}
-use Rattle.ntfs_show.specs.Fault.{show_origin}
-use Rattle.ntfs_show.specs.Printing.{Printing}
+use Rattle.ntfs_print.specs.Fault.{show_origin}
+use Rattle.ntfs_print.specs.Printing.{Printing}
 use Rattle.ntfs_show.specs.RecordInfo.{block_printing, record_printing}
-use Rattle.ntfs_show.specs.declared.fault.ShowFault.{ShowFault}
-use Rattle.ntfs_show.proofs.PendingLemmas.{prints-none}
+use Rattle.ntfs_print.specs.declared.fault.ShowFault.{ShowFault}
+use Rattle.ntfs_print.proofs.PendingLemmas.{prints-none}
 use Rattle.ntfs_show.proofs.RecordInfoLemmas.{prints-by, record-read, record-refused}
 use Rattle.ntfs_show.proofs.record_info.show_by_block.Goals as goal
 

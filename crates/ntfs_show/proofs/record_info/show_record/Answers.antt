@@ -1,8 +1,8 @@
 use Rattle.std.proofs.Common.{[], refl}
 use Rattle.std.proofs.lemmas.Result.{err_from_is_err_and}
-use Rattle.ntfs_show.specs.Fault.{show_origin}
+use Rattle.ntfs_print.specs.Fault.{show_origin}
 use Rattle.ntfs_show.specs.RecordInfo.{record_printing}
-use Rattle.ntfs_show.proofs.PendingLemmas.{printed-start, prints-stop}
+use Rattle.ntfs_print.proofs.PendingLemmas.{printed-start, prints-stop}
 use Rattle.ntfs_show.proofs.record_info.show_record.Goals as goal
 
 pub returns-in_err-block-clause-told : goal.returns-in_err-block-clause-told

@@ -3,8 +3,8 @@ use Rattle.std.proofs.lemmas.Result.{err_from_is_err_and}
 use Rattle.ntfs_base.specs.Frames.{Puts}
 use Rattle.ntfs_base.proofs.FramesLemmas.{puts_none, told_still}
 use Rattle.ntfs_show.specs.Cat.{shown_bytes}
-use Rattle.ntfs_show.specs.Fault.{show_origin}
-use Rattle.ntfs_show.proofs.AnswerLemmas.{puts_by}
+use Rattle.ntfs_print.specs.Fault.{show_origin}
+use Rattle.ntfs_print.proofs.AnswerLemmas.{puts_by}
 use Rattle.ntfs_show.proofs.CatLemmas.{outcome-gathered, outcome-refused}
 use Rattle.ntfs_show.proofs.streams.cat_stream.Goals as goal
 

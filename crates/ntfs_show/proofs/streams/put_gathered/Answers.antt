@@ -4,9 +4,9 @@ use Rattle.ntfs_base.proofs.FramesLemmas.{puts_none}
 use Rattle.ntfs_stream.specs.Fault.{stream_origin}
 use Rattle.ntfs_stream.specs.StreamBytes.{stream_outcome}
 use Rattle.ntfs_show.specs.Cat.{shown_bytes}
-use Rattle.ntfs_show.specs.Fault.{show_origin, stream_refusal}
-use Rattle.ntfs_show.specs.declared.fault.ShowFault.TheVariants as show
-use Rattle.ntfs_show.proofs.AnswerLemmas.{puts_refused}
+use Rattle.ntfs_print.specs.Fault.{show_origin, stream_refusal}
+use Rattle.ntfs_print.specs.declared.fault.ShowFault.TheVariants as show
+use Rattle.ntfs_print.proofs.AnswerLemmas.{puts_refused}
 use Rattle.ntfs_show.proofs.BufferLemmas.{is_buffer}
 use Rattle.ntfs_show.proofs.CatLemmas.{stream-origin}
 use Rattle.ntfs_show.proofs.streams.put_gathered.Goals as goal

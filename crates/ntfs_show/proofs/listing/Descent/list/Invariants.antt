@@ -4,7 +4,7 @@ use Rattle.ntfs_base.specs.Frames.{SinkHasNotFallen}
 use Rattle.ntfs_show.specs.Descent.{IsDescent, descent_most, left_of_descent}
 use Rattle.ntfs_show.specs.ListState.{IsSameDesk}
 use Rattle.ntfs_show.specs.Listing.{record_numbers}
-use Rattle.ntfs_show.specs.Printing.{before}
+use Rattle.ntfs_print.specs.Printing.{before}
 use Rattle.ntfs_show.specs.Progress.{Goes}
 use Rattle.ntfs_show.proofs.listing.Descent.list.Given as goal
 

@@ -3,7 +3,7 @@ use Rattle.std.proofs.lemmas.Result.{err_from_is_err_and}
 use Rattle.ntfs_show.specs.Descent.{IsDescent, above_descent, around_present, below_descent, left_of_descent, more_of_descent}
 use Rattle.ntfs_show.specs.Listing.{record_numbers}
 use Rattle.ntfs_show.specs.ListState.{Around}
-use Rattle.ntfs_show.specs.Printing.{before}
+use Rattle.ntfs_print.specs.Printing.{before}
 use Rattle.ntfs_show.specs.declared.listing.Descent.{Descent}
 use Rattle.ntfs_show.proofs.DescentLemmas.{descent-turned, descent-up}
 use Rattle.ntfs_show.proofs.ListLemmas.{goes-at, stops-at, stops-here, stops-then}

@@ -1,0 +1,13 @@
+mod CoverLemmas
+mod SlotLemmas
+mod OwnersLemmas
+mod HeldLemmas
+mod ScanLemmas
+mod LineLemmas
+mod FileLemmas
+mod SweepLemmas
+mod SpanLemmas
+mod RangeLemmas
+mod StartLemmas
+mod TurnLemmas
+mod RangeOutcomeLemmas

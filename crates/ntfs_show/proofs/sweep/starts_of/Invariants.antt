@@ -1,6 +1,0 @@
-use Rattle.std.proofs.Common.{◌≡◌, ◌++◌, drop, map}
-use Rattle.ntfs_show.specs.Sweep.{span_of, starts_from}
-use Rattle.ntfs_show.proofs.sweep.starts_of.Given as goal
-
-abbrev pub invariant-rows : goal.invariant-rows
-invariant-rows l = l.starts.items ++ starts_from l.number (drop l.number (map span_of l.rows)) ≡ starts_from 0 (map span_of l.rows)
