@@ -8,7 +8,7 @@ each test. So this script writes N tests for each of these functions into a copy
 .. allocations before the function begins, so that together they refuse each allocation of it. Of the last tests none
 may miss one, else N is too small.
 
-Usage: tools/refused_memory.py [CRATE ..]. It ends with 1 where something was wrong. The repository is only read.
+Usage: tools/refused_memory.py [CRATE | CRATE:WORK ..]. It ends with 1 where something was wrong. The repository is only read.
 """
 
 import concurrent.futures
@@ -111,10 +111,12 @@ def main():
     crates = sys.argv[1:] or [line.split(":")[0] for line in lines if ":" in line]
     are_right = True
     with concurrent.futures.ThreadPoolExecutor(os.cpu_count()) as pool:
-        for crate in crates:
+        for name in crates:
+            crate, _, one = name.partition(":")
             for file in sorted((TOP / "crates" / crate / "src").rglob("*.rt")):
                 for work in WORK.findall(file.read_text()):
-                    are_right &= tried(crate, file, work, pool)
+                    if one in ("", work):
+                        are_right &= tried(crate, file, work, pool)
     sys.exit(0 if are_right else 1)
 
 

@@ -129,7 +129,8 @@ pub struct Ran {
     pub err: MemSink,
 }
 
-fn texts(alloc: Global, words: &[&str]) -> Result<Vec<String>, AllocError> {
+/// The words as texts of their own.
+pub fn texts(alloc: Global, words: &[&str]) -> Result<Vec<String>, AllocError> {
     let mut all = Vec::new(alloc);
     for word in words {
         all.push(String::from_str(alloc, word)?)?;

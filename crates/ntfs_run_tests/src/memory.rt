@@ -1,9 +1,10 @@
 //! Each tool with all the memory that it asks for, or without some of it. `tools/refused_memory.py` has each allocation
 //! refused in turn.
-use crate::case::{NO_FAULT, run_over};
+use crate::case::{NO_FAULT, run_over, texts};
 use crate::info::{INFO, LINES};
 use crate::volume::{BOOT, BOOT_LEN, image_of, small_volume, two_runs};
 use ntfs_run::Status;
+use ntfs_words::{Request, WordsFault, read_words};
 use std::process::Abort;
 use std::test::Fail;
 
@@ -55,6 +56,31 @@ fn cat_is_whole(rt: &impl Abort, host: &HostRuntime) -> Result<bool, Fail> {
     assert!(rt; want.as_slice().starts_with(ran.out.content.as_slice()));
     assert!(rt; b"ntfscat: no memory\n".starts_with(ran.err.content.as_slice()));
     Ok(false)
+}
+
+/// Reads the words of a command line: whether they were read. Where they weren't, memory was wanting.
+fn words_are_whole(rt: &impl Abort, host: &HostRuntime) -> Result<bool, Fail> {
+    let alloc = host.alloc();
+    let line = [
+        "ntfscat",
+        "--attribute=0x80",
+        "v",
+        "Dir/inner.txt",
+        "-n",
+        "other",
+    ];
+    let Ok(words) = texts(alloc, &line) else {
+        return Ok(false);
+    };
+    match read_words(alloc, &words) {
+        Ok(Request::Cat { kind, image, .. }) => {
+            assert_eq!(rt; kind, 0x80);
+            assert!(rt; image.as_str() == "v");
+            Ok(true)
+        }
+        Err(WordsFault::NoMemory) => Ok(false),
+        _ => Err("other words were read".into()),
+    }
 }
 
 /// Runs a tool that shows over a made volume, by a path where it takes one: whether it was done. Where it wasn't, memory
@@ -174,5 +200,11 @@ fn with_ample_memory_ntfsls_is_done(rt: HostRuntime) -> Result<(), Fail> {
 #[test]
 fn with_ample_memory_ntfscluster_is_done(rt: HostRuntime) -> Result<(), Fail> {
     assert!(rt; owners_are_whole(&rt, &rt)?);
+    Ok(())
+}
+
+#[test]
+fn with_ample_memory_words_are_read(rt: HostRuntime) -> Result<(), Fail> {
+    assert!(rt; words_are_whole(&rt, &rt)?);
     Ok(())
 }
