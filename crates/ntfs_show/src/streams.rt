@@ -1,6 +1,6 @@
 //! The bytes of a record's stream, put.
 
-ghost use Rattle.std.specs.Prelude.{◌≡◌};
+ghost use Rattle.std.specs.Prelude.{◌≡◌, IfOk};
 ghost use Rattle.ntfs_base.specs.Frames.{Copies, Gives, IfTold, OnlyReads, Puts};
 ghost use Rattle.ntfs_boot.specs.Geometry.{IsOpened};
 ghost use Rattle.ntfs_show.specs.Cat.{cat_outcome, gathered_stream, shown_bytes};
