@@ -6,3 +6,6 @@ pub mod ClearLemmas
 pub mod CountLemmas
 pub mod OwnedLemmas
 pub mod CloneLemmas
+pub mod PairingLemmas
+pub mod MembersLemmas
+pub mod GatheredLemmas
