@@ -260,8 +260,8 @@ first-says o f begun =
     let base = table-base o f begun in
     let same = first-mapped (celled o.geometry.clusters) (slots_of o.geometry o.map f) in
     let says = first-by o.geometry o.map f
-        (subst (λ (s : Slot (Located (Laid (Cells ℕ)))). s.is_live ≡ true) same base.live)
-        (subst (λ (s : Slot (Located (Laid (Cells ℕ)))). s.is_sound ≡ true) same base.sound) in
+    (subst (λ (s : Slot (Located (Laid (Cells ℕ)))). s.is_live ≡ true) same base.live)
+    (subst (λ (s : Slot (Located (Laid (Cells ℕ)))). s.is_sound ≡ true) same base.sound) in
     record {
       bytes = says.bytes;
       file = says.file;
@@ -413,8 +413,8 @@ head-says image o is says =
     let least = sector-least image g geometry.0 in
     let begins = table-begins_head image o f is.opened is.whole in
     let below = all-weaker (λ k. times k (claims_in (volume_data o f)) ≡ 1) (λ k. k < g.clusters)
-        (λ k one. each-cluster (λ j. j < g.clusters) (claims_in (volume_data o f)) k (claims-below o f is.whole) (omega (arith, one)))
-        (head_clusters g) (head-owned o f is.whole) in
+    (λ k one. each-cluster (λ j. j < g.clusters) (claims_in (volume_data o f)) k (claims-below o f is.whole) (omega (arith, one)))
+    (head_clusters g) (head-owned o f is.whole) in
     let within = (raw-within g o.map f 0 says.bytes says.stands).0 in
     let none : 0 * g.record_size ≡ 0 = omega arith in
     let same = head-same g f o.map begins.0 begins.1 (omega (arith, least.0)) (long-clusters image g.clusters g.cluster (head_clusters g) geometry.1 below) (omega (arith, within, none)) in

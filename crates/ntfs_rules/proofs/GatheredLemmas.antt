@@ -98,12 +98,13 @@ named-in {P = P} slots r kind name entry e of is =
     let attribute = (find-of (λ (a : Attribute P). means entry (id_of a.face)) s.attributes e.attribute is.first).0 in
     let own = has-map (extent_at e.number s.head) (filter test s.attributes) e.attribute (has-kept test s.attributes e.attribute attribute (member-of kind name (member_of e) entry of names)) in
     let same : extent_at e.number s.head e.attribute ≡ e = ap (λ (h : Head). extent_at e.number h e.attribute) (sym is.head) in
-    let here : e.number ≡ 0 + e.number = omega arith in
-    (names,
+    let here : e.number ≡ 0 + e.number = omega arith in (
+      names,
       has-from r sequence kind name 0 e.number slots e is.live
-      (subst (λ n. Contains (file_extents_at r sequence kind name n s) e) here
-      (has-if ((e.number == r) || (s.is_live && has_base s.head.base r sequence)) (own_extents e.number kind name s) e (is-part slots r entry e is)
-      (subst (λ (x : Extent P). Contains (own_extents e.number kind name s) x) same own))))
+          (subst (λ n. Contains (file_extents_at r sequence kind name n s) e) here
+          (has-if ((e.number == r) || (s.is_live && has_base s.head.base r sequence)) (own_extents e.number kind name s) e (is-part slots r entry e is)
+          (subst (λ (x : Extent P). Contains (own_extents e.number kind name s) x) same own))),
+    )
 
 all-passed : {A : Type 0} (test : A → Bool) (xs : List A) → AllByRecursion (λ x. test x ≡ true) (filter test xs)
 all-passed {A = A} test xs =
@@ -306,7 +307,7 @@ stream-found v r kind name e clear base none has =
     let m = member_of e in
     let kept = subst (λ (ms : List Member). Contains ms m) (file-members kind name r slots none) (has-map member_of (file_extents r kind name slots) e has) in
     let is = all-at (λ (x : Member). Contains members x × (is_member_of kind name x ≡ true)) (filter (is_member_of kind name) members) m
-        (all-kept (Contains members) (is_member_of kind name) members (all-of (Contains members) members (λ x among. among))) kept in
+    (all-kept (Contains members) (is_member_of kind name) members (all-of (Contains members) members (λ x among. among))) kept in
     let id = of-parts kind name m.id is.1 in
     let own = map (λ (a : Attribute (Located (Laid (Cells ℕ)))). id_of a.face) s.attributes in
     let id_among = Contains-append_right own (map (λ (x : Member). x.id) members) m.id (has-map (λ (x : Member). x.id) members m is.0) in
@@ -353,11 +354,11 @@ gathered-all : (v : VolumeData) (r kind : ℕ) (name : List ℕ) (found : List (
     → extents (listings v) (numbers v) r kind name ≡ Ok found → IsPermutation found (file_extents r kind name (numbers v))
 gathered-all v r kind name found clear base none is = elim (cases_Bool (listings v r).is_there) [
   | inl listed ↦
-    listed-permuted (numbers v) r kind name (listings v r).entries found none (list-listed v r clear base listed).1 (of-listed (listings v) (numbers v) r kind name found listed is).1
+      listed-permuted (numbers v) r kind name (listings v r).entries found none (list-listed v r clear base listed).1 (of-listed (listings v) (numbers v) r kind name found listed is).1
   | inr without ↦
-    let own = own_extents r kind name (slot_at (numbers v) r) in
-    let same = same-ok found own (extents (listings v) (numbers v) r kind name) is (own-gathered v r kind name base without) in
-    subst (λ (es : List (Extent (Located (Laid (Cells ℕ))))). IsPermutation found es) (same ∙ sym (own-listed v r kind name clear base without)) (IsPermutation-refl found)
+      let own = own_extents r kind name (slot_at (numbers v) r) in
+      let same = same-ok found own (extents (listings v) (numbers v) r kind name) is (own-gathered v r kind name base without) in
+      subst (λ (es : List (Extent (Located (Laid (Cells ℕ))))). IsPermutation found es) (same ∙ sym (own-listed v r kind name clear base without)) (IsPermutation-refl found)
 ]
 
 -- where the base references tell none, the list names none
@@ -370,10 +371,10 @@ none-found : (v : VolumeData) (r kind : ℕ) (name : List ℕ) → fault_of v �
     → (found : List (Extent (Located (Laid (Cells ℕ))))) × (extents (listings v) (numbers v) r kind name ≡ Ok found)
 none-found v r kind name clear base none empty = elim (cases_Bool (listings v r).is_there) [
   | inl listed ↦
-    let are = list-listed v r clear base listed in
-    let members = members_from r (slot_at (numbers v) r).head.sequence 0 (numbers v) in
-    let one = entries-one kind name (listings v r).entries members (file_extents r kind name (numbers v)) (file-members kind name r (numbers v) none) are.1 in
-    ([], listed-only (listings v) (numbers v) r kind name [] base listed are.0 (none-listed v r kind name (filter (lists kind name) (listings v r).entries) one empty))
+      let are = list-listed v r clear base listed in
+      let members = members_from r (slot_at (numbers v) r).head.sequence 0 (numbers v) in
+      let one = entries-one kind name (listings v r).entries members (file_extents r kind name (numbers v)) (file-members kind name r (numbers v) none) are.1 in
+      ([], listed-only (listings v) (numbers v) r kind name [] base listed are.0 (none-listed v r kind name (filter (lists kind name) (listings v r).entries) one empty))
   | inr without ↦ (own_extents r kind name (slot_at (numbers v) r), own-gathered v r kind name base without)
 ]
 
@@ -417,7 +418,7 @@ value-joined kind e [] resident other is = inl (refl, (resident, tt))
 value-joined kind e (x ∷ es) resident other is =
     let not_name = other-number kind 0x30 other in
     let none : length (map part_of (x ∷ es)) ≡ 0 = eqb-true (length (map part_of (x ∷ es))) 0
-        (sym (ap (λ b. if b then list_all (λ (p : Part ℕ). p.is_resident) (map part_of (x ∷ es)) else length (map part_of (x ∷ es)) == 0) not_name) ∙ is) in
+    (sym (ap (λ b. if b then list_all (λ (p : Part ℕ). p.is_resident) (map part_of (x ∷ es)) else length (map part_of (x ∷ es)) == 0) not_name) ∙ is) in
     absurd (omega (arith, none))
 
 extents-joined : (c kind : ℕ) (es : Extents) → (kind ≡ 0x30 → ⊥) → are_stream c kind (map part_of es) ≡ true → AreJoined es
@@ -425,11 +426,11 @@ unfolding are_stream are_values join_from
 extents-joined c kind [] other is = inr refl
 extents-joined c kind (e ∷ es) other is = elim (cases_Bool e.attribute.face.is_resident) [
   | inl resident ↦
-    value-joined kind e es resident other
-    (sym (ap (λ b. if b then are_values kind (map part_of es) else is_joined (stream_of c 0 (map part_of (e ∷ es)))) resident) ∙ is)
+      value-joined kind e es resident other
+      (sym (ap (λ b. if b then are_values kind (map part_of es) else is_joined (stream_of c 0 (map part_of (e ∷ es)))) resident) ∙ is)
   | inr runs ↦
-    inr (runs-joined c 0 (part_of e) (map part_of es) (stream_of c 0 (map part_of (e ∷ es))) runs refl
-    (sym (ap (λ b. if b then are_values kind (map part_of es) else is_joined (stream_of c 0 (map part_of (e ∷ es)))) runs) ∙ is))
+      inr (runs-joined c 0 (part_of e) (map part_of es) (stream_of c 0 (map part_of (e ∷ es))) runs refl
+      (sym (ap (λ b. if b then are_values kind (map part_of es) else is_joined (stream_of c 0 (map part_of (e ∷ es)))) runs) ∙ is))
 ]
 
 -- what is gathered is a stream, where the base references tell any

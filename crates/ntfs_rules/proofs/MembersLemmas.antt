@@ -217,9 +217,9 @@ extents-once {P = P} kind name entries members es same are =
     let IsOnce = λ (m : Member). count_of (names_member m) listed ≡ 1 in
     let kept = all-kept test (is_member_of kind name) members are.once in
     let all = all-of IsOnce (filter (is_member_of kind name) members) (λ m has.
-        let is = all-at (λ (m : Member). test m × (is_member_of kind name m ≡ true)) (filter (is_member_of kind name) members) m kept has in
-        count-kept (names_member m) (lists kind name) entries (λ entry named. entry-of kind name m entry is.1 named)
-        ∙ eqb-true (count_of (names_member m) entries) 1 (and-left (count_of (names_member m) entries == 1) (count_of (is_same_member m) members == 1) is.0)) in
+    let is = all-at (λ (m : Member). test m × (is_member_of kind name m ≡ true)) (filter (is_member_of kind name) members) m kept has in
+    count-kept (names_member m) (lists kind name) entries (λ entry named. entry-of kind name m entry is.1 named)
+    ∙ eqb-true (count_of (names_member m) entries) 1 (and-left (count_of (names_member m) entries == 1) (count_of (is_same_member m) members == 1) is.0)) in
     all-unmap IsOnce member_of es (subst (λ (ms : List Member). AllByRecursion IsOnce ms) (sym same) all)
 
 pub entries-one : {P : Type 0} (kind : ℕ) (name : List ℕ) (entries : List Listed) (members : List Member) (es : List (Extent P)) → map member_of es ≡ filter (is_member_of kind name) members → AreListed entries members

@@ -243,10 +243,10 @@ permuted {B = B} names (a ∷ ks) bs (b ∷ found) pairs named alone =
     let front = parts.0 in
     let back = parts.1 in
     let rest = rest-of names a ks b found front back pairs.0.0
-        (subst (λ (cs : List B). AllZip (NamesIn names cs) ks found) parts.2 pairs.1)
-        (subst (λ (cs : List B). AllByRecursion (IsNamedOnce names (a ∷ ks)) cs) parts.2 named)
-        (subst (λ (cs : List B). NamesOne names cs a) parts.2 alone.0)
-        (subst (λ (cs : List B). AllByRecursion (NamesOne names cs) ks) parts.2 alone.1) in
+    (subst (λ (cs : List B). AllZip (NamesIn names cs) ks found) parts.2 pairs.1)
+    (subst (λ (cs : List B). AllByRecursion (IsNamedOnce names (a ∷ ks)) cs) parts.2 named)
+    (subst (λ (cs : List B). NamesOne names cs a) parts.2 alone.0)
+    (subst (λ (cs : List B). AllByRecursion (NamesOne names cs) ks) parts.2 alone.1) in
     let more = permuted names ks (front ++ back) found rest.pairs rest.named rest.alone in
     subst (λ (cs : List B). IsPermutation (b ∷ found) cs) (sym parts.2)
     (IsPermutation-trans (b ∷ found) (b ∷ (front ++ back)) (front ++ (b ∷ back)) (IsPermutation-cons b found (front ++ back) more)

@@ -58,8 +58,11 @@ file_extents r kind name slots = file_extents_from r (slot_at slots r).head.sequ
 abbrev pub IsNoList : {P : Type 0} → List (Slot P) → ℕ → ℕ → List ℕ → Type 0
 IsNoList slots r kind name = list_extents r kind name (slot_at slots r) ≡ []
 
+-- the extent is a value that stands in its record
+abbrev pub IsValue : {P : Type 0} → Extent P → Type 0
+IsValue e = e.attribute.face.is_resident ≡ true
+
 -- the extents are one value; or they follow one another from VCN 0 on, each from where the one before it ends
 abbrev pub AreJoined : {X : Type 0} → List (Extent (Located (Laid (Cells X)))) → Type 0
-AreJoined {X} found =
-    ((length found ≡ 1) × AllByRecursion (λ (e : Extent (Located (Laid (Cells X)))). e.attribute.face.is_resident ≡ true) found)
-    ⊎ (join_from 0 (map part_of found) ≡ true)
+AreJoined found =
+    ((length found ≡ 1) × AllByRecursion IsValue found) ⊎ (join_from 0 (map part_of found) ≡ true)

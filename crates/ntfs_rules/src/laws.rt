@@ -65,8 +65,8 @@ pub fn owned_clusters_are_the_volume()
 
 /// On a volume that breaks no rule an attribute list tells what the base references tell. For a base record, and a type
 /// and name that isn't its list's, the extents that are gathered are all attributes of that type and name in that
-/// record and in the records in use that have it as their base, and nothing else. They are one value, or they follow one
-/// another from VCN 0 on; of names ($FILE_NAME, type 0x30) there may be more values.
+/// record and in the records in use that have it as their base, and nothing else. They are one value, or they follow
+/// one another from VCN 0 on; of names ($FILE_NAME, type 0x30) there may be more values.
 pub fn lists_tell_what_base_references_tell()
     ensures all { (v : VolumeData) (r kind : ℕ) (name : List ℕ) → fault_of v ≡ None → IsBase (numbers v) r
         → IsNoList (numbers v) r kind name
