@@ -1,5 +1,5 @@
 -- An image with the same bytes in all owned clusters is the same volume.
-use Rattle.std.proofs.Common.{◌≡◌, ◌≤◌, ◌<◌, ◌+◌, ◌-◌, ◌*◌, ◌/◌, ◌==◌, ◌&&◌, ◌||◌, ◌++◌, ℕ, zero, suc, Bool, true, false, List, [], ◌∷◌, length, map, take, drop, Option, Some, None, Result, Ok, Err, refl, sym, ap, subst, ◌∙◌, arith, if◌then◌else◌, nat_le}
+use Rattle.std.proofs.Common.{◌≡◌, ◌≤◌, ◌<◌, ◌+◌, ◌*◌, ◌/◌, ◌++◌, ℕ, zero, suc, Bool, true, false, List, [], ◌∷◌, length, map, take, drop, Option, Some, None, Result, Ok, Err, refl, sym, ap, subst, ◌∙◌, arith, if◌then◌else◌, nat_le}
 use Rattle.std.specs.Prelude.{find}
 use Rattle.std.specs.List.{AllByRecursion, flat_map}
 use Rattle.std.specs.Str.{bytes_eq}
@@ -26,11 +26,12 @@ use Rattle.ntfs_record.specs.Views.{placed_from}
 use Rattle.ntfs_rules.proofs.ClearLemmas.{all-hold}
 use Rattle.ntfs_rules.proofs.CountLemmas.{each-claim, each-cluster}
 use Rattle.ntfs_rules.proofs.DataLemmas.{numbers-are}
-use Rattle.ntfs_rules.proofs.OwnedLemmas.{BeginsTable, LiesOn, boot-owned, celled_slots, claims-are, claims-below, head-owned, table-begins_head, table-begun, table-owned}
+use Rattle.ntfs_rules.proofs.PairingLemmas.{all-left, all-right}
+use Rattle.ntfs_rules.proofs.OwnedLemmas.{BeginsTable, boot-owned, celled_slots, claims-are, claims-below, head-owned, table-begins_head, table-begun, table-owned}
 use Rattle.ntfs_rules.specs.Accepts.{claims_in, fault_of}
 use Rattle.ntfs_rules.specs.Clusters.{times}
 use Rattle.ntfs_rules.specs.Laws.{HasOwner, HoldsOwned, IsWhole, data_in}
-use Rattle.ntfs_rules.specs.VolumeData.{Records, VolumeData, listings, numbers, stream_in, volume_data}
+use Rattle.ntfs_rules.specs.VolumeData.{Records, VolumeData, listings, numbers, volume_data}
 use Rattle.ntfs_runs.specs.Cells.{Cells, cells_below, map_cells}
 use Rattle.ntfs_survey.proofs.AgreeLemmas.{agree-volume}
 use Rattle.ntfs_survey.proofs.OwnedLemmas.{celled}
@@ -41,7 +42,7 @@ use Rattle.ntfs_volume.proofs.AnswerLemmas.{bind-ok, must-parts}
 use Rattle.ntfs_volume.specs.Fault.{volume_fault}
 use Rattle.ntfs_volume.proofs.ExtentsLemmas.{all-weaker, of-base}
 use Rattle.ntfs_volume.proofs.ToldLemmas.{head-same, opened-agree, raw-within}
-use Rattle.ntfs_volume.specs.Laws.{AgreeAt, HaveLength, IsBase, clusters_of_list, clusters_of_listing, head_bytes, in_located, in_slots, list_clusters, told_by}
+use Rattle.ntfs_volume.specs.Laws.{AgreeAt, HaveLength, IsBase, clusters_of_list, clusters_of_listing, head_bytes, in_located, in_slots, list_clusters}
 use Rattle.ntfs_volume.specs.Listing.{is_list}
 use Rattle.ntfs_volume.specs.Located.{Located, idle, live_located, located_attributes, located_of, located_slot, slot_at, slots_from, slots_of, sound_located, unlocated, unsound_located, with_cells}
 use Rattle.ntfs_volume.specs.MftMap.{Map, head_clusters, live_record, mft_map}
@@ -53,14 +54,6 @@ use Rattle.ntfs_volume.specs.Gather.{extents}
 use Rattle.ntfs_volume.specs.declared.fault.VolumeFault.{VolumeFault}
 
 -- ---- lists
-
-all-left : {A : Type 0} (P : A → Type 0) (xs ys : List A) → AllByRecursion P (xs ++ ys) → AllByRecursion P xs
-all-left P [] ys all = tt
-all-left P (x ∷ xs) ys all = (all.0, all-left P xs ys all.1)
-
-all-right : {A : Type 0} (P : A → Type 0) (xs ys : List A) → AllByRecursion P (xs ++ ys) → AllByRecursion P ys
-all-right P [] ys all = all
-all-right P (x ∷ xs) ys all = all-right P xs ys all.1
 
 pub agree-all : (f h : ℕ → List ℕ) (ks : List ℕ) → AllByRecursion (λ k. f k ≡ h k) ks → AgreeAt f h ks
 agree-all f h [] all = tt

@@ -5,7 +5,7 @@ pub mod ListLemmas
 pub mod ClearLemmas
 pub mod CountLemmas
 pub mod OwnedLemmas
-pub mod CloneLemmas
 pub mod PairingLemmas
+pub mod CloneLemmas
 pub mod MembersLemmas
 pub mod GatheredLemmas

@@ -1,35 +1,23 @@
 -- What an attribute list tells of a file, and what the base references tell, on a volume that breaks no rule.
-use Rattle.std.proofs.Common.{◌≡◌, ◌≤◌, ◌<◌, ◌+◌, ◌==◌, ◌&&◌, ◌||◌, ◌++◌, ◌⊎◌, inl, inr, ℕ, zero, suc, Bool, true, false, List, [], ◌∷◌, length, map, Option, Some, None, Result, Ok, Err, refl, sym, ap, subst, ◌∙◌, arith, if◌then◌else◌}
-use Rattle.std.specs.Prelude.{Contains, filter, find, not}
-use Rattle.std.specs.List.{AllByRecursion, AllZip, list_all, list_any}
-use Rattle.std.specs.List.Sorted.{IsPermutation}
+use Rattle.std.proofs.Common.{◌≡◌, ◌+◌, ◌==◌, ◌&&◌, ◌||◌, ◌++◌, ℕ, suc, Bool, true, false, List, [], ◌∷◌, map, Some, refl, sym, ap, subst, ◌∙◌, arith, if◌then◌else◌}
+use Rattle.std.specs.Prelude.{filter, find}
+use Rattle.std.specs.List.{AllByRecursion, list_all, list_any}
 use Rattle.std.specs.Str.{bytes_eq}
-use Rattle.std.proofs.lemmas.Bool.{cases_Bool, eq-eqb, eqb-true}
+use Rattle.std.proofs.lemmas.Bool.{eq-eqb, eqb-true}
 use Rattle.std.proofs.lemmas.List.{map-append}
-use Rattle.std.proofs.lemmas.List.Elements.{Contains-append_left, Contains-append_right, filter-append}
-use Rattle.std.proofs.lemmas.List.Sorted.{IsPermutation-refl}
+use Rattle.std.proofs.lemmas.List.Elements.{filter-append}
 use Rattle.std.proofs.lemmas.Slice.Eq.{bytes_eq-Decides}
 use Rattle.ntfs_attrlist.specs.Entry.{Listed}
-use Rattle.ntfs_record.proofs.SlotLemmas.{first_not-map}
-use Rattle.ntfs_record.specs.FileRecord.{Attribute, Head, Laid}
-use Rattle.ntfs_record.specs.Slots.{Slot, first_not, map_slot, map_slots, on_payload}
-use Rattle.ntfs_rules.proofs.ClearLemmas.{c11-clear, c12-clear}
-use Rattle.ntfs_rules.proofs.PairingLemmas.{NamesIn, all-at, all-kept, all-of, all-tested, all-unmap, any-at, count-kept, count-less, count-map, count-some, has-kept, has-map, permuted, zip-both}
-use Rattle.ntfs_rules.specs.Accepts.{fault_of}
-use Rattle.ntfs_rules.specs.Files.{Member, are_listed, are_stream, are_stream_found, are_values, c11, c12, count_of, ids_of, is_in_stream, is_joined, is_listed, is_no_base, is_same_member, lead_of, list_extents, member_at, members_at, members_from, names_member, without_list}
-use Rattle.ntfs_rules.specs.Laws.{AreJoined, IsNoList, file_extents, file_extents_at, file_extents_from}
-use Rattle.ntfs_rules.specs.Records.{first_bad, of_base}
-use Rattle.ntfs_rules.specs.VolumeData.{Records, VolumeData, listings, numbers}
-use Rattle.ntfs_runs.specs.Cells.{Cells}
-use Rattle.ntfs_volume.proofs.AnswerLemmas.{and-left, and-right, must-parts}
-use Rattle.ntfs_volume.proofs.ExtentsLemmas.{listed-only, of-listed, of-own}
-use Rattle.ntfs_volume.specs.Gather.{Extent, Id, Lists, extent_at, extents, id_of, is_member, is_of, lists, means, own_extents}
-use Rattle.ntfs_volume.specs.Laws.{IsBase, IsNamedBy, in_slots}
-use Rattle.ntfs_volume.specs.Listing.{RecordListing, is_list}
-use Rattle.ntfs_volume.specs.Located.{Located, slot_at}
-use Rattle.ntfs_volume.specs.References.{belongs, has_base, matches, target}
-use Rattle.ntfs_volume.specs.Streams.{Gathered, Part, all_right, cells_in, join_from, part_of, stream_of, stream_of_runs}
-use Rattle.ntfs_volume.specs.declared.fault.VolumeFault.{VolumeFault}
+use Rattle.ntfs_record.specs.FileRecord.{Attribute, Head}
+use Rattle.ntfs_record.specs.Slots.{Slot}
+use Rattle.ntfs_rules.proofs.PairingLemmas.{all-at, all-kept, all-of, all-tested, all-unmap, any-at, count-kept, count-less, count-map, count-some}
+use Rattle.ntfs_rules.specs.Files.{Member, are_listed, count_of, is_same_member, lead_of, list_extents, member_at, members_at, members_from, names_member, without_list}
+use Rattle.ntfs_rules.specs.Laws.{IsNoList, file_extents, file_extents_at, file_extents_from}
+use Rattle.ntfs_volume.proofs.AnswerLemmas.{and-left, and-right}
+use Rattle.ntfs_volume.specs.Gather.{Extent, extent_at, id_of, is_of, lists, means, own_extents}
+use Rattle.ntfs_volume.specs.Listing.{is_list}
+use Rattle.ntfs_volume.specs.Located.{slot_at}
+use Rattle.ntfs_volume.specs.References.{has_base, matches, target}
 
 -- ---- extents as attributes of a file
 
