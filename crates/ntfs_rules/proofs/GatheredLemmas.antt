@@ -18,7 +18,7 @@ use Rattle.ntfs_record.specs.FileRecord.{Attribute, Head, Laid}
 use Rattle.ntfs_record.specs.Slots.{Slot, first_not, map_slot, map_slots, on_payload}
 use Rattle.ntfs_rules.proofs.ClearLemmas.{c11-clear, c12-clear}
 use Rattle.ntfs_rules.proofs.MembersLemmas.{AreListed, both, entries-one, extents-once, file-members, is_member_of, listed-parts, member-of, member_of, names_extent}
-use Rattle.ntfs_rules.proofs.PairingLemmas.{NamesIn, all-at, all-kept, all-of, all-tested, has-kept, has-map, here, permuted, there, zip-both}
+use Rattle.ntfs_rules.proofs.PairingLemmas.{NamesIn, all-at, all-kept, all-of, all-tested, all-unmap, has-kept, has-map, here, permuted, there, zip-both}
 use Rattle.ntfs_rules.specs.Accepts.{fault_of}
 use Rattle.ntfs_rules.specs.Files.{Member, are_listed, are_stream, are_stream_found, are_values, c11, c12, count_of, ids_of, is_in_stream, is_joined, is_listed, is_no_base, list_extents, member_at, members_at, members_from, names_member, without_list}
 use Rattle.ntfs_rules.specs.Laws.{AreJoined, IsNoList, file_extents, file_extents_at, file_extents_from}
@@ -412,41 +412,48 @@ runs-joined c r first ps (Err fault) runs is joins = absurd cc
 abbrev Extents : Type 0
 Extents = List (Extent (Located (Laid (Cells ℕ))))
 
-value-joined : (kind : ℕ) (e : Extent (Located (Laid (Cells ℕ)))) (es : Extents) → e.attribute.face.is_resident ≡ true → (kind ≡ 0x30 → ⊥) → are_values kind (map part_of es) ≡ true → AreJoined (e ∷ es)
+value-joined : (kind : ℕ) (e : Extent (Located (Laid (Cells ℕ)))) (es : Extents) → e.attribute.face.is_resident ≡ true → are_values kind (map part_of es) ≡ true → AreJoined kind (e ∷ es)
 unfolding are_values
-value-joined kind e [] resident other is = inl (refl, (resident, tt))
-value-joined kind e (x ∷ es) resident other is =
-    let not_name = other-number kind 0x30 other in
-    let none : length (map part_of (x ∷ es)) ≡ 0 = eqb-true (length (map part_of (x ∷ es))) 0
-    (sym (ap (λ b. if b then list_all (λ (p : Part ℕ). p.is_resident) (map part_of (x ∷ es)) else length (map part_of (x ∷ es)) == 0) not_name) ∙ is) in
-    absurd (omega (arith, none))
+value-joined kind e es resident is = elim (cases_Bool (kind == 0x30)) [
+  | inl name ↦
+    let all = all-tested (λ (p : Part ℕ). p.is_resident) (map part_of es)
+        (sym (ap (λ b. if b then list_all (λ (p : Part ℕ). p.is_resident) (map part_of es) else length (map part_of es) == 0) name) ∙ is) in
+    inl (inl (eqb-true kind 0x30 name), (resident, all-unmap (λ (p : Part ℕ). p.is_resident ≡ true) part_of es all))
+  | inr other ↦
+    alone e es resident (eqb-true (length (map part_of es)) 0
+    (sym (ap (λ b. if b then list_all (λ (p : Part ℕ). p.is_resident) (map part_of es) else length (map part_of es) == 0) other) ∙ is))
+]
+  where
+    alone : (e : Extent (Located (Laid (Cells ℕ)))) (es : Extents) → e.attribute.face.is_resident ≡ true → length (map part_of es) ≡ 0 → AreJoined kind (e ∷ es)
+    alone e [] resident none = inl (inr refl, (resident, tt))
+    alone e (x ∷ es) resident none = absurd (omega (arith, none))
 
-extents-joined : (c kind : ℕ) (es : Extents) → (kind ≡ 0x30 → ⊥) → are_stream c kind (map part_of es) ≡ true → AreJoined es
-unfolding are_stream are_values join_from
-extents-joined c kind [] other is = inr refl
-extents-joined c kind (e ∷ es) other is = elim (cases_Bool e.attribute.face.is_resident) [
+extents-joined : (c kind : ℕ) (es : Extents) → are_stream c kind (map part_of es) ≡ true → AreJoined kind es
+unfolding are_stream join_from
+extents-joined c kind [] is = inr refl
+extents-joined c kind (e ∷ es) is = elim (cases_Bool e.attribute.face.is_resident) [
   | inl resident ↦
-      value-joined kind e es resident other
-      (sym (ap (λ b. if b then are_values kind (map part_of es) else is_joined (stream_of c 0 (map part_of (e ∷ es)))) resident) ∙ is)
+    value-joined kind e es resident
+    (sym (ap (λ b. if b then are_values kind (map part_of es) else is_joined (stream_of c 0 (map part_of (e ∷ es)))) resident) ∙ is)
   | inr runs ↦
-      inr (runs-joined c 0 (part_of e) (map part_of es) (stream_of c 0 (map part_of (e ∷ es))) runs refl
-      (sym (ap (λ b. if b then are_values kind (map part_of es) else is_joined (stream_of c 0 (map part_of (e ∷ es)))) runs) ∙ is))
+    inr (runs-joined c 0 (part_of e) (map part_of es) (stream_of c 0 (map part_of (e ∷ es))) runs refl
+    (sym (ap (λ b. if b then are_values kind (map part_of es) else is_joined (stream_of c 0 (map part_of (e ∷ es)))) runs) ∙ is))
 ]
 
 -- what is gathered is a stream, where the base references tell any
-told-joined : (v : VolumeData) (r kind : ℕ) (name : List ℕ) (found told : Extents) → fault_of v ≡ None → IsBase (numbers v) r → IsNoList (numbers v) r kind name → (kind ≡ 0x30 → ⊥)
-    → extents (listings v) (numbers v) r kind name ≡ Ok found → file_extents r kind name (numbers v) ≡ told → length told ≡ length found → AreJoined found
+told-joined : (v : VolumeData) (r kind : ℕ) (name : List ℕ) (found told : Extents) → fault_of v ≡ None → IsBase (numbers v) r → IsNoList (numbers v) r kind name
+    → extents (listings v) (numbers v) r kind name ≡ Ok found → file_extents r kind name (numbers v) ≡ told → length told ≡ length found → AreJoined kind found
 unfolding join_from
-told-joined v r kind name [] told clear base none other is same long = inr refl
-told-joined v r kind name (e ∷ found) [] clear base none other is same long = absurd (omega (arith, long))
-told-joined v r kind name (e ∷ found) (x ∷ told) clear base none other is same long =
+told-joined v r kind name [] told clear base none is same long = inr refl
+told-joined v r kind name (e ∷ found) [] clear base none is same long = absurd (omega (arith, long))
+told-joined v r kind name (e ∷ found) (x ∷ told) clear base none is same long =
     let has = subst (λ (them : Extents). Contains them x) (sym same) (here x told) in
     let stream = stream-found v r kind name x clear base none has in
     let one = same-ok stream.0 (e ∷ found) (extents (listings v) (numbers v) r kind name) stream.1 is in
-    subst (λ (es : Extents). AreJoined es) one (extents-joined v.geometry.cluster kind stream.0 other stream.2)
+    subst (λ (es : Extents). AreJoined kind es) one (extents-joined v.geometry.cluster kind stream.0 stream.2)
 
-pub found-joined : (v : VolumeData) (r kind : ℕ) (name : List ℕ) (found : Extents) → fault_of v ≡ None → IsBase (numbers v) r → IsNoList (numbers v) r kind name → (kind ≡ 0x30 → ⊥)
-    → extents (listings v) (numbers v) r kind name ≡ Ok found → AreJoined found
-found-joined v r kind name found clear base none other is =
+pub found-joined : (v : VolumeData) (r kind : ℕ) (name : List ℕ) (found : Extents) → fault_of v ≡ None → IsBase (numbers v) r → IsNoList (numbers v) r kind name
+    → extents (listings v) (numbers v) r kind name ≡ Ok found → AreJoined kind found
+found-joined v r kind name found clear base none is =
     let es = file_extents r kind name (numbers v) in
-    told-joined v r kind name found es clear base none other is refl (length_permutation found es (gathered-all v r kind name found clear base none is))
+    told-joined v r kind name found es clear base none is refl (length_permutation found es (gathered-all v r kind name found clear base none is))

@@ -9,3 +9,4 @@ pub mod PairingLemmas
 pub mod CloneLemmas
 pub mod MembersLemmas
 pub mod GatheredLemmas
+mod SpanLemmas

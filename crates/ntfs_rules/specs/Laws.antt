@@ -62,7 +62,13 @@ IsNoList slots r kind name = list_extents r kind name (slot_at slots r) ≡ []
 abbrev pub IsValue : {P : Type 0} → Extent P → Type 0
 IsValue e = e.attribute.face.is_resident ≡ true
 
--- the extents are one value; or they follow one another from VCN 0 on, each from where the one before it ends
-abbrev pub AreJoined : {X : Type 0} → List (Extent (Located (Laid (Cells X)))) → Type 0
-AreJoined found =
-    ((length found ≡ 1) × AllByRecursion IsValue found) ⊎ (join_from 0 (map part_of found) ≡ true)
+-- extents of this type are values, one alone unless they are names ($FILE_NAME, type 0x30); or they follow one another
+-- from VCN 0 on, each from where the one before it ends
+abbrev pub AreJoined : {X : Type 0} → ℕ → List (Extent (Located (Laid (Cells X)))) → Type 0
+AreJoined kind found =
+    (((kind ≡ 0x30) ⊎ (length found ≡ 1)) × AllByRecursion IsValue found)
+    ⊎ (join_from 0 (map part_of found) ≡ true)
+
+-- an extent begins at the VCN of another or before it
+abbrev pub BeginsBefore : {P : Type 0} → Extent P → Extent P → Type 0
+BeginsBefore e x = e.attribute.face.lowest ≤ x.attribute.face.lowest

@@ -6,10 +6,11 @@ ghost use Rattle.std.specs.List.Sorted.{IsPermutation};
 ghost use Rattle.ntfs_base.specs.Bytes.{cluster_at};
 ghost use Rattle.ntfs_rules.specs.Accepts.{Accepts, claims_in, fault_of, first_fault};
 ghost use Rattle.ntfs_rules.specs.Clusters.{times};
-ghost use Rattle.ntfs_rules.specs.Laws.{AreJoined, HoldsOwned, IsNoList, IsWhole, data_in, file_extents};
+ghost use Rattle.ntfs_rules.specs.Laws.{AreJoined, BeginsBefore, HoldsOwned, IsNoList, IsWhole, data_in, file_extents};
 ghost use Rattle.ntfs_rules.specs.VolumeData.{VolumeData, listings, numbers, volume_data};
 ghost use Rattle.ntfs_record.specs.FileRecord.{Laid};
 ghost use Rattle.ntfs_runs.specs.Cells.{Cells};
+ghost use Rattle.ntfs_survey.specs.Laws.{Ascend};
 ghost use Rattle.ntfs_survey.specs.Owned.{Claim};
 ghost use Rattle.ntfs_volume.specs.Gather.{Extent, extents};
 ghost use Rattle.ntfs_volume.specs.Laws.{IsBase};
@@ -65,14 +66,20 @@ pub fn owned_clusters_are_the_volume()
 
 /// On a volume that breaks no rule an attribute list tells what the base references tell. For a base record, and a type
 /// and name that isn't its list's, the extents that are gathered are all attributes of that type and name in that
-/// record and in the records in use that have it as their base, and nothing else. They are one value, or they follow
-/// one another from VCN 0 on; of names ($FILE_NAME, type 0x30) there may be more values.
+/// record and in the records in use that have it as their base, and nothing else, in the order of their lowest VCN.
+/// They are one value, or they follow one another from VCN 0 on; of names ($FILE_NAME, type 0x30) there may be more
+/// values.
 pub fn lists_tell_what_base_references_tell()
     ensures all { (v : VolumeData) (r kind : ℕ) (name : List ℕ) → fault_of v ≡ None → IsBase (numbers v) r
         → IsNoList (numbers v) r kind name
         → (found : List (Extent (Located (Laid (Cells ℕ))))) × (extents (listings v) (numbers v) r kind name ≡ Ok found)
         × IsPermutation found (file_extents r kind name (numbers v)) }
     ensures joined { (v : VolumeData) (r kind : ℕ) (name : List ℕ) (found : List (Extent (Located (Laid (Cells ℕ)))))
-        → fault_of v ≡ None → IsBase (numbers v) r → IsNoList (numbers v) r kind name → (kind ≡ 0x30 → ⊥)
-        → extents (listings v) (numbers v) r kind name ≡ Ok found → AreJoined found }
+        → fault_of v ≡ None → IsBase (numbers v) r → IsNoList (numbers v) r kind name
+        → extents (listings v) (numbers v) r kind name ≡ Ok found → AreJoined kind found }
+    ensures ordered { (o : Opened) (f : ℕ → List ℕ) (r kind : ℕ) (name : List ℕ)
+        (found : List (Extent (Located (Laid (Cells ℕ))))) → fault_of (volume_data o f) ≡ None
+        → IsBase (numbers (volume_data o f)) r → IsNoList (numbers (volume_data o f)) r kind name
+        → extents (listings (volume_data o f)) (numbers (volume_data o f)) r kind name ≡ Ok found
+        → Ascend BeginsBefore found }
 {}
