@@ -34,3 +34,7 @@ opened-whole image (Err fault) opened is = absurd cc
 pub accepted-whole : (image : List ℕ) → Accepts image → (o : Opened) × IsWhole image o
 unfolding first_fault
 accepted-whole image is = opened-whole image (opened_of image) refl is
+
+pub accepted-opened : (image : List ℕ) (o : Opened) → Accepts image → opened_of image ≡ Ok o → IsWhole image o
+accepted-opened image o is opened =
+    record { opened = opened; whole = none-broken (fault_of (data_in image o)) (sym (fault-opened image o opened) ∙ is) }

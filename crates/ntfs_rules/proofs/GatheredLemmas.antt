@@ -416,12 +416,12 @@ value-joined : (kind : ℕ) (e : Extent (Located (Laid (Cells ℕ)))) (es : Exte
 unfolding are_values
 value-joined kind e es resident is = elim (cases_Bool (kind == 0x30)) [
   | inl name ↦
-    let all = all-tested (λ (p : Part ℕ). p.is_resident) (map part_of es)
-        (sym (ap (λ b. if b then list_all (λ (p : Part ℕ). p.is_resident) (map part_of es) else length (map part_of es) == 0) name) ∙ is) in
-    inl (inl (eqb-true kind 0x30 name), (resident, all-unmap (λ (p : Part ℕ). p.is_resident ≡ true) part_of es all))
+      let all = all-tested (λ (p : Part ℕ). p.is_resident) (map part_of es)
+      (sym (ap (λ b. if b then list_all (λ (p : Part ℕ). p.is_resident) (map part_of es) else length (map part_of es) == 0) name) ∙ is) in
+      inl (inl (eqb-true kind 0x30 name), (resident, all-unmap (λ (p : Part ℕ). p.is_resident ≡ true) part_of es all))
   | inr other ↦
-    alone e es resident (eqb-true (length (map part_of es)) 0
-    (sym (ap (λ b. if b then list_all (λ (p : Part ℕ). p.is_resident) (map part_of es) else length (map part_of es) == 0) other) ∙ is))
+      alone e es resident (eqb-true (length (map part_of es)) 0
+      (sym (ap (λ b. if b then list_all (λ (p : Part ℕ). p.is_resident) (map part_of es) else length (map part_of es) == 0) other) ∙ is))
 ]
   where
     alone : (e : Extent (Located (Laid (Cells ℕ)))) (es : Extents) → e.attribute.face.is_resident ≡ true → length (map part_of es) ≡ 0 → AreJoined kind (e ∷ es)
@@ -433,11 +433,11 @@ unfolding are_stream join_from
 extents-joined c kind [] is = inr refl
 extents-joined c kind (e ∷ es) is = elim (cases_Bool e.attribute.face.is_resident) [
   | inl resident ↦
-    value-joined kind e es resident
-    (sym (ap (λ b. if b then are_values kind (map part_of es) else is_joined (stream_of c 0 (map part_of (e ∷ es)))) resident) ∙ is)
+      value-joined kind e es resident
+      (sym (ap (λ b. if b then are_values kind (map part_of es) else is_joined (stream_of c 0 (map part_of (e ∷ es)))) resident) ∙ is)
   | inr runs ↦
-    inr (runs-joined c 0 (part_of e) (map part_of es) (stream_of c 0 (map part_of (e ∷ es))) runs refl
-    (sym (ap (λ b. if b then are_values kind (map part_of es) else is_joined (stream_of c 0 (map part_of (e ∷ es)))) runs) ∙ is))
+      inr (runs-joined c 0 (part_of e) (map part_of es) (stream_of c 0 (map part_of (e ∷ es))) runs refl
+      (sym (ap (λ b. if b then are_values kind (map part_of es) else is_joined (stream_of c 0 (map part_of (e ∷ es)))) runs) ∙ is))
 ]
 
 -- what is gathered is a stream, where the base references tell any

@@ -1,9 +1,8 @@
 -- In which order the extents of a stream begin.
-use Rattle.std.proofs.Common.{◌≡◌, ◌≤◌, ◌+◌, ◌/◌, ◌==◌, ◌&&◌, inl, inr, ℕ, zero, suc, Bool, true, false, List, [], ◌∷◌, length, map, Option, Some, None, Result, Ok, Err, refl, sym, ap, subst, ◌∙◌, arith, if◌then◌else◌}
+use Rattle.std.proofs.Common.{◌≡◌, ◌≤◌, ◌+◌, ◌==◌, ◌&&◌, inl, inr, ℕ, zero, suc, Bool, true, false, List, [], ◌∷◌, length, map, Option, Some, None, Result, Ok, Err, refl, sym, subst, arith, if◌then◌else◌}
 use Rattle.std.specs.Prelude.{not}
 use Rattle.std.specs.List.{AllByRecursion}
 use Rattle.std.proofs.lemmas.Bool.{eqb-true}
-use Rattle.ntfs_boot.specs.declared.geometry.Geometry.{Geometry}
 use Rattle.ntfs_fixup.specs.Fixups.{unfix_of}
 use Rattle.ntfs_fixup.specs.declared.header.Magic.TheVariants.{File}
 use Rattle.ntfs_fixup.specs.declared.unfixing.FixFault.{FixFault}
@@ -33,7 +32,6 @@ use Rattle.ntfs_volume.proofs.ExtentsLemmas.{all-weaker, members}
 use Rattle.ntfs_volume.specs.Gather.{Extent, extents}
 use Rattle.ntfs_volume.specs.Laws.{IsBase, IsMember}
 use Rattle.ntfs_volume.specs.Located.{Located, idle, live_located, located_of, located_slot, slot_at, slots_from, slots_of, sound_located, unsound_located, with_cells}
-use Rattle.ntfs_volume.specs.MftMap.{Map}
 use Rattle.ntfs_volume.specs.Opened.{Opened}
 use Rattle.ntfs_volume.specs.Records.{raw_record}
 use Rattle.ntfs_volume.specs.Streams.{join_from, part_of}
@@ -71,7 +69,7 @@ file-spans bytes (Ok file) is n =
     let found = found_lem bytes (Ok file) is in
     let within : in_use_of bytes ≤ length bytes = omega (arith, found.header.in_use, found.header.allocated) in
     let all = all_raws (λ raw. Spans (attribute_of raw).face) (in_use_of bytes) bytes _ file.raws found.attributes.last
-        (λ p sound kind. raw-spans _ (raw-is (in_use_of bytes) p bytes within sound kind)) found.attributes.follow in
+    (λ p sound kind. raw-spans _ (raw-is (in_use_of bytes) p bytes within sound kind)) found.attributes.follow in
     own-spans (tells_own n file.layout.number) file (placed-spans file.layout.first_attribute file.raws all)
 
 block-spans : (block : Result (List ℕ) FixFault) (n : ℕ) → HaveSpans (live_located n (if_unfixed block))

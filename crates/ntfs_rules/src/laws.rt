@@ -28,6 +28,7 @@ pub fn equal_volumes_have_one_fault()
 /// An image is accepted exactly where it opens as a volume that breaks no rule.
 pub fn accepted_images_are_whole()
     ensures only { (image : List ℕ) → Accepts image → (o : Opened) × IsWhole image o }
+    ensures opened { (image : List ℕ) (o : Opened) → Accepts image → opened_of image ≡ Ok o → IsWhole image o }
     ensures each { (image : List ℕ) (o : Opened) → IsWhole image o → Accepts image }
 {}
 
