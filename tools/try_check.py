@@ -21,6 +21,7 @@ import check
 from measure import program_over
 
 AT_ONCE = 32
+USES = ["ntfs_base", "ntfs_bitmap", "ntfs_host", "ntfs_volume", "ntfs_check"]
 
 PROGRAM = """\
 //! Judges the volumes of the files that the words name, a line for each.
@@ -165,7 +166,7 @@ def main(words):
         count = int(words[place + 1])
         del words[place:place + 2]
     total = wrong = 0
-    with program_over(crates(), "try_check", PROGRAM, uses=["ntfs_base", "ntfs_bitmap", "ntfs_host", "ntfs_volume", "ntfs_check"]) as (program, _):
+    with program_over(crates(), "try_check", PROGRAM, uses=USES) as (program, _):
         for piece in pieces(wanted(words, count)):
             for (name, _, answers), line in zip(piece, verdicts(program, piece)):
                 total += 1
