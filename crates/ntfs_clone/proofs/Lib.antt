@@ -4,3 +4,6 @@ pub mod ReadingLemmas
 pub mod HeaderLemmas
 pub mod SpellingLemmas
 pub mod TakingLemmas
+pub mod VolumeLemmas
+pub mod SavingLemmas
+pub mod WalkLemmas

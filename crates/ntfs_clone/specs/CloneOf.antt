@@ -4,6 +4,8 @@ use Rattle.std.specs.Prelude.{◌+◌, ◌-◌, ◌*◌, ℕ, zero, suc, Bool, L
 use Rattle.byteorder.specs.Endian.{little_bytes}
 use Rattle.ntfs_base.specs.Bytes.{cluster_at}
 use Rattle.ntfs_base.specs.Growth.{resize_of}
+use Rattle.ntfs_bitmap.specs.ClusterSet.{Clusters, has}
+use Rattle.ntfs_boot.specs.declared.geometry.Geometry.{Geometry}
 use Rattle.ntfs_clone.specs.declared.header.CloneHeader.{CloneHeader}
 use Rattle.ntfs_clone.specs.Header.{clone_magic, clone_version}
 use Rattle.ntfs_clone.specs.Commands.{Command, gap, cluster, commands_bytes}
@@ -16,6 +18,20 @@ pub record Volume : Type 0 where
   pub device : ℕ
   pub owned : ℕ → Bool
   pub image : List ℕ
+
+-- the bytes of a device that holds all sectors and behind them one more, the backup boot sector
+abbrev pub device_of : Geometry → ℕ
+device_of g = (g.sectors + 1) * g.sector
+
+-- the volume of an image with this geometry, of which these clusters are owned
+abbrev pub volume_of : Geometry → Clusters → List ℕ → Volume
+volume_of g owned image = record {
+  cluster = g.cluster;
+  clusters = g.clusters;
+  device = device_of g;
+  owned = has owned;
+  image = image;
+}
 
 -- a cluster that is left out widens the gap behind it
 abbrev pub widened : List Command → List Command

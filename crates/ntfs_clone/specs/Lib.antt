@@ -10,3 +10,4 @@ pub mod CloneOf
 pub mod Restored
 pub mod Reading
 pub mod Writing
+pub mod Saving

@@ -1,4 +1,5 @@
-//! Clone images: the clusters of a volume that its files own, in one stream. Here they are read and restored.
+//! Clone images: the clusters of a volume that its files own, in one stream. Here they are read, restored and
+//! saved.
 #![tactic(auto)]
 
 mod backup;
@@ -10,13 +11,20 @@ pub mod laws;
 mod reading;
 mod restoring;
 mod row;
+mod saving;
+mod stretch;
 mod taking;
+mod volume;
+mod waiting;
 mod writing;
 
 pub use fault::CloneFault;
 pub use header::{CloneHeader, read_header};
 pub use reading::read_commands;
 pub use restoring::{restore, restore_to};
+pub use saving::save_clusters;
 
+#[cfg(test)]
+mod save_tests;
 #[cfg(test)]
 mod tests;

@@ -1,0 +1,149 @@
+-- What is saved by way of bytes that wait.
+use Rattle.std.proofs.Common.{◌≡◌, ◌+◌, ℕ, List, [], ◌++◌, length, take, refl, sym, ap, ◌∙◌, subst, arith, length-append, append_assoc, Result, Ok, Err}
+use Rattle.std.proofs.Math.Seq.{take-append-add}
+use Rattle.std.proofs.lemmas.List.{append-nil, take-append-le, take_all}
+use Rattle.ntfs_base.specs.Frames.{IsSettled, Origin, Puts, PutsPrefix}
+use Rattle.ntfs_base.specs.Sink.{Put, SinkState, after_put}
+use Rattle.ntfs_base.proofs.SinkLemmas.{after_put-append, after_put-nil}
+use Rattle.ntfs_clone.specs.Saving.{IsSaved, Saves}
+
+-- ---- prefixes
+
+-- a prefix of a front is one of all
+prefix-more : (all front rest : List ℕ) (old new : SinkState) → all ≡ front ++ rest → PutsPrefix front old new → PutsPrefix all old new
+prefix-more all front rest old new is (k, within, put) = (
+  k,
+  omega (arith, within, length-append front rest, ap length is),
+  put ∙ ap (λ bytes. after_put bytes old) (sym (take-append-le k front rest within) ∙ ap (take k) (sym is)),
+)
+
+-- a front was put, and a prefix of what follows
+prefix-behind : (all front rest : List ℕ) (old now new : SinkState) → all ≡ front ++ rest → now ≡ after_put front old → PutsPrefix rest now new → PutsPrefix all old new
+prefix-behind all front rest old now new is front_put (k, within, put) = (
+  length front + k,
+  omega (arith, within, length-append front rest, ap length is),
+  put ∙ ap (after_put (take k rest)) front_put ∙ sym (after_put-append front (take k rest) old)
+      ∙ ap (λ bytes. after_put bytes old) (sym (take-append-add front rest k) ∙ ap (take (length front + k)) (sym is)),
+)
+
+prefix-whole : (all : List ℕ) (old new : SinkState) → new ≡ after_put all old → PutsPrefix all old new
+prefix-whole all old new is = (length all, omega arith, is ∙ ap (λ bytes. after_put bytes old) (sym (take_all (length all) all (omega arith))))
+
+-- ---- what was saved so far
+
+-- bytes that wait, and nothing was put
+pub saved-kept : (bytes waiting : List ℕ) (sink : SinkState) → waiting ≡ bytes → IsSaved bytes sink waiting sink
+saved-kept bytes waiting sink is = record { front = []; parts = sym is; put = sym (after_put-nil sink) }
+
+-- bytes that were all put
+saved-put : (bytes waiting : List ℕ) (old new : SinkState) → waiting ≡ [] → new ≡ after_put bytes old → IsSaved bytes old waiting new
+saved-put bytes waiting old new none is =
+    record { front = bytes; parts = sym (ap (λ xs. bytes ++ xs) none ∙ append-nil bytes); put = is }
+
+-- further bytes
+pub saved-step : (saved bytes waiting held : List ℕ) (before now after : SinkState) → IsSaved saved before waiting now → IsSaved (waiting ++ bytes) now held after
+    → IsSaved (saved ++ bytes) before held after
+saved-step saved bytes waiting held before now after is next = record {
+  front = is.front ++ next.front;
+  parts = ap (λ xs. xs ++ bytes) is.parts ∙ append_assoc is.front waiting bytes ∙ ap (λ xs. is.front ++ xs) next.parts ∙ sym (append_assoc is.front next.front held);
+  put = next.put ∙ ap (after_put next.front) is.put ∙ sym (after_put-append is.front next.front before);
+}
+
+-- bytes that wait behind those that waited
+pub saved-more : (saved bytes waiting held : List ℕ) (before now : SinkState) → IsSaved saved before waiting now → held ≡ waiting ++ bytes → IsSaved (saved ++ bytes) before held now
+saved-more saved bytes waiting held before now is more = record {
+  front = is.front;
+  parts = ap (λ xs. xs ++ bytes) is.parts ∙ append_assoc is.front waiting bytes ∙ ap (λ xs. is.front ++ xs) (sym more);
+  put = is.put;
+}
+
+-- what was put is a prefix of all
+pub saved-stop : (all saved rest waiting : List ℕ) (before now : SinkState) → all ≡ saved ++ rest → IsSaved saved before waiting now → PutsPrefix all before now
+saved-stop all saved rest waiting before now is so_far =
+    prefix-more all saved rest before now is
+    (prefix-more saved so_far.front waiting before now so_far.parts (prefix-whole so_far.front before now so_far.put))
+
+-- the sink cut the next bytes off
+pub saved-cut : (all saved bytes rest waiting : List ℕ) (before now after : SinkState) → all ≡ (saved ++ bytes) ++ rest → IsSaved saved before waiting now
+    → PutsPrefix (waiting ++ bytes) now after → PutsPrefix all before after
+saved-cut all saved bytes rest waiting before now after is so_far cut =
+    prefix-more all (saved ++ bytes) rest before after is
+    (prefix-behind (saved ++ bytes) so_far.front (waiting ++ bytes) before now after
+    (ap (λ xs. xs ++ bytes) so_far.parts ∙ append_assoc so_far.front waiting bytes) so_far.put cut)
+
+-- ---- calls that save
+
+pub saves-none : {T E : Type 0} (waiting : List ℕ) (sink : SinkState) (x : T) → Saves {E = E} [] waiting sink (Ok x) waiting sink
+saves-none waiting sink x = record { whole = saved-kept (waiting ++ []) waiting sink (sym (append-nil waiting)); part = tt }
+
+-- what waited was put
+pub saves-rest : {T E : Type 0} (waiting held : List ℕ) (before after : SinkState) (x : T) → held ≡ [] → after ≡ after_put waiting before → Saves {E = E} [] waiting before (Ok x) held after
+saves-rest waiting held before after x none is = record { whole = saved-put (waiting ++ []) held before after none (is ∙ ap (λ xs. after_put xs before) (sym (append-nil waiting))); part = tt }
+
+pub saves-rest-cut : {T E : Type 0} (waiting held : List ℕ) (before after : SinkState) (e : E) → PutsPrefix waiting before after → Saves {T = T} [] waiting before (Err e) held after
+saves-rest-cut waiting held before after e is = record { whole = tt; part = prefix-more (waiting ++ []) waiting [] before after refl is }
+
+-- one follows another
+pub saves-then : {T U E : Type 0} (a b waiting held kept : List ℕ) (before now after : SinkState) (x : U) (result : Result T E)
+    → Saves {E = E} a waiting before (Ok x) held now → Saves b held now result kept after → Saves (a ++ b) waiting before result kept after
+saves-then a b waiting held kept before now after x (Ok y) one two =
+    record { whole = subst (λ xs. IsSaved xs before kept after) (append_assoc waiting a b) (saved-step (waiting ++ a) b held kept before now after one.whole two.whole); part = tt }
+saves-then a b waiting held kept before now after x (Err e) one two = record {
+  whole = tt;
+  part = saved-cut (waiting ++ (a ++ b)) (waiting ++ a) b [] held before now after (sym (append_assoc waiting a b) ∙ sym (append-nil ((waiting ++ a) ++ b))) one.whole two.part;
+}
+
+-- what isn't reached isn't saved
+pub saves-cut : {T U D E : Type 0} (a b waiting held kept : List ℕ) (before after : SinkState) (d : D) (e : E) → Saves {T = U} a waiting before (Err d) held after
+    → Saves {T = T} (a ++ b) waiting before (Err e) kept after
+saves-cut a b waiting held kept before after d e is =
+    record { whole = tt; part = prefix-more (waiting ++ (a ++ b)) (waiting ++ a) b before after (sym (append_assoc waiting a b)) is.part }
+
+-- a fault before anything more was put
+pub saves-stop : {T E : Type 0} (bytes waiting held : List ℕ) (sink : SinkState) (e : E) → Saves {T = T} bytes waiting sink (Err e) held sink
+saves-stop bytes waiting held sink e = record { whole = tt; part = (0, omega arith, sym (after_put-nil sink)) }
+
+-- room was made, and then the bytes wait
+pub saves-wait : {T U E : Type 0} (bytes waiting held kept : List ℕ) (before now : SinkState) (x : U) (y : T) → Saves {E = E} [] waiting before (Ok x) held now
+    → kept ≡ held ++ bytes → Saves {E = E} bytes waiting before (Ok y) kept now
+saves-wait bytes waiting held kept before now x y room is = record {
+  whole = saved-more waiting bytes held kept before now (subst (λ xs. IsSaved xs before held now) (append-nil waiting) room.whole) is;
+  part = tt;
+}
+
+-- room was made, and then memory was wanting
+pub saves-want : {T U D E : Type 0} (bytes waiting held kept : List ℕ) (before now : SinkState) (x : U) (e : E) → Saves {E = D} [] waiting before (Ok x) held now
+    → Saves {T = T} bytes waiting before (Err e) kept now
+saves-want bytes waiting held kept before now x e room =
+    record { whole = tt; part = saved-stop (waiting ++ bytes) waiting bytes held before now refl (subst (λ xs. IsSaved xs before held now) (append-nil waiting) room.whole) }
+
+-- no room could be made
+pub saves-full : {T U D E : Type 0} (bytes waiting held kept : List ℕ) (before now : SinkState) (d : D) (e : E) → Saves {T = U} [] waiting before (Err d) held now
+    → Saves {T = T} bytes waiting before (Err e) kept now
+saves-full bytes waiting held kept before now d e room =
+    record { whole = tt; part = prefix-more (waiting ++ bytes) (waiting ++ []) bytes before now (ap (λ xs. xs ++ bytes) (sym (append-nil waiting))) room.part }
+
+-- ---- the whole image
+
+-- all was saved, and then what waited was put
+pub puts-saved : {E : Type 0} (origin : E → Origin) (all waiting : List ℕ) (before now after : SinkState) (result : Result (Unit {0}) E)
+    → ((e : E) → result ≡ Err e → IsSettled (origin e) → ⊥) → IsSaved all before waiting now → Put waiting now result after → Puts origin (Ok all) before result after
+puts-saved origin all waiting before now after (Ok done) fails is put = record {
+  answer = λ settled. refl;
+  output = λ settled. whole;
+  prefix = prefix-whole all before after whole;
+}
+  where
+    whole : after ≡ after_put all before
+    whole = put.whole ∙ ap (after_put waiting) is.put ∙ sym (after_put-append is.front waiting before) ∙ ap (λ bytes. after_put bytes before) (sym is.parts)
+puts-saved origin all waiting before now after (Err e) fails is put = record {
+  answer = λ settled. absurd (fails e refl settled);
+  output = λ settled. absurd (fails e refl settled);
+  prefix = prefix-behind all is.front waiting before now after is.parts is.put put.part;
+}
+
+-- the work was cut off
+pub puts-cut : {E : Type 0} (origin : E → Origin) (all : List ℕ) (before after : SinkState) (e : E) → (IsSettled (origin e) → ⊥)
+    → PutsPrefix all before after → Puts origin (Ok all) before (Err e) after
+puts-cut origin all before after e fails prefix =
+    record { answer = λ settled. absurd (fails settled); output = λ settled. absurd (fails settled); prefix = prefix }
