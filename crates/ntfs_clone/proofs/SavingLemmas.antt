@@ -123,6 +123,46 @@ pub saves-full : {T U D E : Type 0} (bytes waiting held kept : List ℕ) (before
 saves-full bytes waiting held kept before now d e room =
     record { whole = tt; part = prefix-more (waiting ++ bytes) (waiting ++ []) bytes before now (ap (λ xs. xs ++ bytes) (sym (append-nil waiting))) room.part }
 
+-- ---- loops that save
+
+-- some of the bytes were saved behind those that waited, and this is the rest of them
+pub record IsUnderWay (all rest waiting : List ℕ) (before : SinkState) (held : List ℕ) (after : SinkState) : Type 0 where
+  pub done : List ℕ
+  pub parts : all ≡ done ++ rest
+  pub saved : IsSaved (waiting ++ done) before held after
+
+pub way-start : (all waiting : List ℕ) (sink : SinkState) → IsUnderWay all all waiting sink waiting sink
+way-start all waiting sink = record { done = []; parts = refl; saved = saved-kept (waiting ++ []) waiting sink (sym (append-nil waiting)) }
+
+pub way-same : (all rest waiting : List ℕ) (before : SinkState) → all ≡ rest → IsUnderWay all rest waiting before waiting before
+way-same all rest waiting before is = subst (λ xs. IsUnderWay all xs waiting before waiting before) is (way-start all waiting before)
+
+-- a turn
+pub way-next : {T E : Type 0} (all rest bytes more waiting held kept : List ℕ) (before now after : SinkState) (x : T) → rest ≡ bytes ++ more → IsUnderWay all rest waiting before held now
+    → Saves {E = E} bytes held now (Ok x) kept after → IsUnderWay all more waiting before kept after
+way-next all rest bytes more waiting held kept before now after x is way next = record {
+  done = way.done ++ bytes;
+  parts = way.parts ∙ ap (λ xs. way.done ++ xs) is ∙ sym (append_assoc way.done bytes more);
+  saved = subst (λ xs. IsSaved xs before kept after) (append_assoc waiting way.done bytes) (saved-step (waiting ++ way.done) bytes held kept before now after way.saved next.whole);
+}
+
+-- a turn that was cut off
+pub way-cut : {T U D E : Type 0} (all rest bytes more waiting held kept last : List ℕ) (before now after : SinkState) (d : D) (e : E) → rest ≡ bytes ++ more → IsUnderWay all rest waiting before held now
+    → Saves {T = U} bytes held now (Err d) kept after → Saves {T = T} all waiting before (Err e) last after
+way-cut all rest bytes more waiting held kept last before now after d e is way next = record {
+  whole = tt;
+  part = saved-cut (waiting ++ all) (waiting ++ way.done) bytes more held before now after
+      (ap (λ xs. waiting ++ xs) (way.parts ∙ ap (λ xs. way.done ++ xs) is) ∙ sym (append_assoc waiting way.done (bytes ++ more)) ∙ sym (append_assoc (waiting ++ way.done) bytes more)) way.saved next.part;
+}
+
+-- the end
+pub way-end : {T E : Type 0} (all rest waiting held : List ℕ) (before after : SinkState) (x : T) → rest ≡ [] → IsUnderWay all rest waiting before held after
+    → Saves {E = E} all waiting before (Ok x) held after
+way-end all rest waiting held before after x none way = record {
+  whole = subst (λ xs. IsSaved (waiting ++ xs) before held after) (sym (way.parts ∙ ap (λ xs. way.done ++ xs) none ∙ append-nil way.done)) way.saved;
+  part = tt;
+}
+
 -- ---- the whole image
 
 -- all was saved, and then what waited was put

@@ -1,5 +1,6 @@
 -- The commands of a volume, stretch by stretch.
-use Rattle.std.proofs.Common.{◌≡◌, ◌≤◌, ◌<◌, ◌+◌, ◌-◌, ℕ, zero, suc, Bool, true, false, List, [], ◌∷◌, ◌++◌, length, take, drop, refl, sym, ap, ◌∙◌, arith, nat_eq, length-append, append_assoc, if◌then◌else◌}
+use Rattle.std.proofs.Common.{◌≡◌, ◌≤◌, ◌<◌, ◌+◌, ◌-◌, ◌*◌, ℕ, zero, suc, Bool, true, false, List, [], ◌∷◌, ◌++◌, length, take, drop, refl, sym, ap, ◌∙◌, arith, nat_eq, length-append, append_assoc, if◌then◌else◌}
+use Rattle.std.proofs.Math.Dec.{eqb-suc-zero}
 use Rattle.std.proofs.lemmas.List.{append-nil, take_all}
 use Rattle.ntfs_base.specs.Bytes.{cluster_at}
 use Rattle.ntfs_clone.specs.CloneOf.{Volume, cluster_commands, saved_commands, tail_of, widened}
@@ -21,12 +22,12 @@ widened-append (cluster first ∷ commands) bytes = refl
 -- a cluster behind all others
 pub commands-append : (v : Volume) (from n : ℕ) (bytes : List ℕ) → cluster_commands v from n (cluster bytes ∷ []) ≡ cluster_commands v from n [] ++ cluster bytes ∷ []
 commands-append v from zero bytes = refl
-commands-append v from (suc n) bytes = two (v.owned from)
+commands-append v from (suc n) bytes = two (v.owned from) (commands-append v (from + 1) n bytes)
   where
-    two : (b : Bool) → (if b then cluster (cluster_at v.image v.cluster from) ∷ cluster_commands v (from + 1) n (cluster bytes ∷ []) else widened (cluster_commands v (from + 1) n (cluster bytes ∷ [])))
+    two : (b : Bool) → cluster_commands v (from + 1) n (cluster bytes ∷ []) ≡ cluster_commands v (from + 1) n [] ++ cluster bytes ∷ [] → (if b then cluster (cluster_at v.image v.cluster from) ∷ cluster_commands v (from + 1) n (cluster bytes ∷ []) else widened (cluster_commands v (from + 1) n (cluster bytes ∷ [])))
         ≡ (if b then cluster (cluster_at v.image v.cluster from) ∷ cluster_commands v (from + 1) n [] else widened (cluster_commands v (from + 1) n [])) ++ cluster bytes ∷ []
-    two true = ap (λ xs. cluster (cluster_at v.image v.cluster from) ∷ xs) (commands-append v (from + 1) n bytes)
-    two false = ap widened (commands-append v (from + 1) n bytes) ∙ widened-append (cluster_commands v (from + 1) n []) bytes
+    two true behind = ap (λ xs. cluster (cluster_at v.image v.cluster from) ∷ xs) behind
+    two false behind = ap widened behind ∙ widened-append (cluster_commands v (from + 1) n []) bytes
 
 -- ---- owned clusters
 
@@ -85,7 +86,10 @@ gap-free v from zero rest free apart =
     let none : zero + rest ≡ rest = omega arith in
     let here : from + zero ≡ from = omega arith in
     ap (λ k. commands_bytes (cluster_commands v from k [])) none ∙ sym (ap (λ k. commands_bytes (cluster_commands v k rest [])) here)
-gap-free v from (suc n) rest free apart = ap commands_bytes (row-free v from n rest free apart)
+gap-free v from (suc n) rest free apart =
+    let behind = commands_bytes (cluster_commands v (from + suc n) rest []) in
+    ap commands_bytes (row-free v from n rest free apart)
+    ∙ sym (ap (λ (b : Bool). (if b then [] else command_bytes (gap (suc n))) ++ behind) (eqb-suc-zero n))
 
 -- behind a stretch an owned cluster follows, or none
 apart-behind : (v : Volume) (at rest : ℕ) → (0 < rest → v.owned at ≡ true) → IsApart (cluster_commands v at rest [])
@@ -122,6 +126,23 @@ row-append image c from n (suc m) =
     ap (spelled_row image c from) sum ∙ ap (λ k. spelled_row image c from (n + m) ++ (1 ∷ cluster_at image c k)) place
     ∙ ap (λ xs. xs ++ (1 ∷ cluster_at image c (from + n + m))) (row-append image c from n m)
     ∙ append_assoc (spelled_row image c from n) (spelled_row image c (from + n) m) (1 ∷ cluster_at image c (from + n + m))
+
+-- the first of the clusters up to an end
+pub row-more : (image : List ℕ) (c at count end : ℕ) → at + count ≤ end → spelled_row image c at (end - at) ≡ spelled_row image c at count ++ spelled_row image c (at + count) (end - (at + count))
+row-more image c at count end within =
+    let sum : end - at ≡ count + (end - (at + count)) = omega arith in
+    ap (spelled_row image c at) sum ∙ row-append image c at count (end - (at + count))
+
+pub row-none : (image : List ℕ) (c at end : ℕ) → end ≤ at → spelled_row image c at (end - at) ≡ []
+row-none image c at end over = let none : end - at ≡ 0 = omega arith in ap (spelled_row image c at) none
+
+-- all clusters are left
+pub commands-first : (v : Volume) → commands_bytes (cluster_commands v 0 v.clusters []) ≡ commands_bytes (cluster_commands v 0 (v.clusters - 0) [])
+commands-first v = let all : v.clusters ≡ v.clusters - 0 = omega arith in ap (λ n. commands_bytes (cluster_commands v 0 n [])) all
+
+-- no cluster is left
+pub commands-none : (v : Volume) (at : ℕ) → v.clusters ≤ at → commands_bytes (cluster_commands v at (v.clusters - at) []) ≡ []
+commands-none v at over = let none : v.clusters - at ≡ 0 = omega arith in ap (λ n. commands_bytes (cluster_commands v at n [])) none
 
 -- the tail is a row of one cluster
 pub tail-row : (tail : List ℕ) (c : ℕ) → length tail ≡ c → spelled_row tail c 0 1 ≡ command_bytes (cluster tail)

@@ -1,6 +1,6 @@
 //! A volume that is saved as a clone image.
 
-ghost use Rattle.std.specs.Prelude.{◌≡◌, ◌≤◌, ◌<◌, ◌+◌, ◌-◌, ◌*◌, ◌++◌, [], length, Ok, IfErr, IfOk};
+ghost use Rattle.std.specs.Prelude.{◌≡◌, ◌≤◌, ◌<◌, ◌+◌, ◌-◌, ◌*◌, ◌++◌, [], length, Ok, IfErr};
 ghost use Rattle.ntfs_base.specs.Frames.{Copies, IfTold, Puts};
 ghost use Rattle.ntfs_bitmap.specs.ClusterSet.{Clusters, bound_of};
 ghost use Rattle.ntfs_boot.specs.Geometry.{IsOpened};
@@ -17,27 +17,7 @@ use crate::waiting::{ROOM, add_clusters, add_header, make_room, put_rest, save_g
 use ntfs_base::{Image, Sink};
 use ntfs_bitmap::ClusterSet;
 use ntfs_boot::Geometry;
-use std::alloc::{AllocError, Global};
-
-/// The bytes of clusters in a row as they are read, and those of commands that wait to be put.
-#[derive(Drop)]
-struct Buffers {
-    row: Vec<u8>,
-    waiting: Vec<u8>,
-}
-
-impl Buffers {
-    /// Room for half a mebibyte each. Nothing waits.
-    fn new(alloc: Global) -> Result<Buffers, AllocError>
-        ensures row { IfOk result (λ buffers. length buffers.row.items ≡ 524288) }
-        ensures waiting { IfOk result (λ buffers. buffers.waiting.items ≡ []) }
-    {
-        Ok(Buffers {
-            row: zeros(alloc, ROOM)?,
-            waiting: Vec::with_capacity(alloc, ROOM)?,
-        })
-    }
-}
+use std::alloc::Global;
 
 /// Saves so many owned clusters in a row, which are read at once.
 fn save_row<G: Image, K: Sink>(
@@ -45,25 +25,25 @@ fn save_row<G: Image, K: Sink>(
     geometry: &Geometry,
     from: u64,
     count: usize,
-    buffers: &mut Buffers,
+    row: &mut [u8],
+    waiting: &mut Vec<u8>,
     sink: &mut K,
 ) -> Result<(), CloneFault>
     requires opened { IsOpened (G.seen image.old).size geometry.now }
     requires within { from + count ≤ geometry.now.clusters }
     requires room { count * (geometry.now.cluster + 1) ≤ 524288 }
-    requires row { length buffers.old.row.items ≡ 524288 }
-    ensures row { length buffers.new.row.items ≡ 524288 }
+    requires row { length row.old ≡ 524288 }
     ensures saved { IfTold G.Image image.old (λ content. Saves
         (spelled_row content geometry.now.cluster from count)
-        buffers.old.waiting.items (K.seen sink.old) result buffers.new.waiting.items (K.seen sink.new)) }
+        waiting.old.items (K.seen sink.old) result waiting.new.items (K.seen sink.new)) }
     ensures copies { Copies G.Image K.Sink clone_origin image.old image.new sink.old sink.new result }
     ensures fails { IfErr result IsSaveFault }
 {
     let cluster = geometry.cluster as usize;
-    let row = &mut buffers.row[..count * cluster];
-    read_row(image, geometry, from, count, row)?;
-    make_room(&mut buffers.waiting, count * (cluster + 1), sink)?;
-    add_clusters(&mut buffers.waiting, row, cluster, count)?;
+    let part = &mut row[..count * cluster];
+    read_row(image, geometry, from, count, part)?;
+    make_room(waiting, count * (cluster + 1), sink)?;
+    add_clusters(waiting, part, cluster, count)?;
     Ok(())
 }
 
@@ -73,17 +53,17 @@ fn save_rows<G: Image, K: Sink>(
     geometry: &Geometry,
     from: u64,
     end: u64,
-    buffers: &mut Buffers,
+    row: &mut [u8],
+    waiting: &mut Vec<u8>,
     sink: &mut K,
 ) -> Result<(), CloneFault>
     requires opened { IsOpened (G.seen image.old).size geometry.now }
     requires order { from ≤ end }
     requires within { end ≤ geometry.now.clusters }
-    requires row { length buffers.old.row.items ≡ 524288 }
-    ensures row { length buffers.new.row.items ≡ 524288 }
+    requires row { length row.old ≡ 524288 }
     ensures saved { IfTold G.Image image.old (λ content. Saves
         (spelled_row content geometry.now.cluster from (end - from))
-        buffers.old.waiting.items (K.seen sink.old) result buffers.new.waiting.items (K.seen sink.new)) }
+        waiting.old.items (K.seen sink.old) result waiting.new.items (K.seen sink.new)) }
     ensures copies { Copies G.Image K.Sink clone_origin image.old image.new sink.old sink.new result }
     ensures fails { IfErr result IsSaveFault }
 {
@@ -91,7 +71,7 @@ fn save_rows<G: Image, K: Sink>(
     let mut at = from;
     'rows: while at < end {
         let count = (end - at).min(most);
-        save_row(image, geometry, at, count as usize, buffers, sink)?;
+        save_row(image, geometry, at, count as usize, row, waiting, sink)?;
         at += count;
     }
     Ok(())
@@ -103,24 +83,24 @@ fn save_stretch<G: Image, K: Sink>(
     geometry: &Geometry,
     from: u64,
     stretch: &Stretch,
-    buffers: &mut Buffers,
+    row: &mut [u8],
+    waiting: &mut Vec<u8>,
     sink: &mut K,
 ) -> Result<(), CloneFault>
     requires opened { IsOpened (G.seen image.old).size geometry.now }
     requires order { from ≤ stretch.now.free }
     requires behind { stretch.now.free ≤ stretch.now.end }
     requires within { stretch.now.end ≤ geometry.now.clusters }
-    requires row { length buffers.old.row.items ≡ 524288 }
-    ensures row { length buffers.new.row.items ≡ 524288 }
+    requires row { length row.old ≡ 524288 }
     ensures saved { IfTold G.Image image.old (λ content. Saves
         (spelled_row content geometry.now.cluster from (stretch.now.free - from)
         ++ spelled_gap (stretch.now.end - stretch.now.free))
-        buffers.old.waiting.items (K.seen sink.old) result buffers.new.waiting.items (K.seen sink.new)) }
+        waiting.old.items (K.seen sink.old) result waiting.new.items (K.seen sink.new)) }
     ensures copies { Copies G.Image K.Sink clone_origin image.old image.new sink.old sink.new result }
     ensures fails { IfErr result IsSaveFault }
 {
-    save_rows(image, geometry, from, stretch.free, buffers, sink)?;
-    save_gap(&mut buffers.waiting, stretch.end - stretch.free, sink)
+    save_rows(image, geometry, from, stretch.free, row, waiting, sink)?;
+    save_gap(waiting, stretch.end - stretch.free, sink)
 }
 
 /// Saves all clusters, stretch by stretch.
@@ -128,23 +108,23 @@ fn save_stretches<G: Image, K: Sink>(
     image: &mut G,
     geometry: &Geometry,
     owned: &ClusterSet,
-    buffers: &mut Buffers,
+    row: &mut [u8],
+    waiting: &mut Vec<u8>,
     sink: &mut K,
 ) -> Result<(), CloneFault>
     requires opened { IsOpened (G.seen image.old).size geometry.now }
     requires bound { bound_of owned.now ≡ geometry.now.clusters }
-    requires row { length buffers.old.row.items ≡ 524288 }
-    ensures row { length buffers.new.row.items ≡ 524288 }
+    requires row { length row.old ≡ 524288 }
     ensures saved { IfTold G.Image image.old (λ content. Saves
         (commands_bytes (cluster_commands (volume_of geometry.now owned.now content) 0 geometry.now.clusters []))
-        buffers.old.waiting.items (K.seen sink.old) result buffers.new.waiting.items (K.seen sink.new)) }
+        waiting.old.items (K.seen sink.old) result waiting.new.items (K.seen sink.new)) }
     ensures copies { Copies G.Image K.Sink clone_origin image.old image.new sink.old sink.new result }
     ensures fails { IfErr result IsSaveFault }
 {
     let mut from = 0;
     'stretches: while from < geometry.clusters {
         let stretch = stretch_from(owned, geometry.clusters, from);
-        save_stretch(image, geometry, from, &stretch, buffers, sink)?;
+        save_stretch(image, geometry, from, &stretch, row, waiting, sink)?;
         from = stretch.end;
     }
     Ok(())
@@ -154,22 +134,23 @@ fn save_stretches<G: Image, K: Sink>(
 fn save_tail<G: Image, K: Sink>(
     image: &mut G,
     geometry: &Geometry,
-    buffers: &mut Buffers,
+    row: &mut [u8],
+    waiting: &mut Vec<u8>,
     sink: &mut K,
 ) -> Result<(), CloneFault>
     requires opened { IsOpened (G.seen image.old).size geometry.now }
-    requires row { length buffers.old.row.items ≡ 524288 }
+    requires row { length row.old ≡ 524288 }
     ensures saved { (owned : Clusters) → IfTold G.Image image.old (λ content. Saves
         (command_bytes (cluster (tail_of (volume_of geometry.now owned content))))
-        buffers.old.waiting.items (K.seen sink.old) result buffers.new.waiting.items (K.seen sink.new)) }
+        waiting.old.items (K.seen sink.old) result waiting.new.items (K.seen sink.new)) }
     ensures copies { Copies G.Image K.Sink clone_origin image.old image.new sink.old sink.new result }
     ensures fails { IfErr result IsSaveFault }
 {
     let cluster = geometry.cluster as usize;
-    let tail = &mut buffers.row[..cluster];
+    let tail = &mut row[..cluster];
     read_tail(image, geometry, tail)?;
-    make_room(&mut buffers.waiting, cluster + 1, sink)?;
-    add_clusters(&mut buffers.waiting, tail, cluster, 1)?;
+    make_room(waiting, cluster + 1, sink)?;
+    add_clusters(waiting, tail, cluster, 1)?;
     Ok(())
 }
 
@@ -193,9 +174,10 @@ pub fn save_clusters<G: Image, K: Sink>(
     ensures fails { IfErr result IsSaveFault }
     ensures copies { Copies G.Image K.Sink clone_origin image.old image.new sink.old sink.new result }
 {
-    let mut buffers = Buffers::new(alloc)?;
-    add_header(&mut buffers.waiting, &header_of(geometry, owned))?;
-    save_stretches(image, geometry, owned, &mut buffers, sink)?;
-    save_tail(image, geometry, &mut buffers, sink)?;
-    put_rest(&mut buffers.waiting, sink)
+    let mut row = zeros(alloc, ROOM)?;
+    let mut waiting = Vec::with_capacity(alloc, ROOM)?;
+    add_header(&mut waiting, &header_of(geometry, owned))?;
+    save_stretches(image, geometry, owned, &mut row, &mut waiting, sink)?;
+    save_tail(image, geometry, &mut row, &mut waiting, sink)?;
+    put_rest(&mut waiting, sink)
 }
