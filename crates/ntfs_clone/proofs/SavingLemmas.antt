@@ -1,10 +1,14 @@
 -- What is saved by way of bytes that wait.
 use Rattle.std.proofs.Common.{◌≡◌, ◌+◌, ℕ, List, [], ◌++◌, length, take, refl, sym, ap, ◌∙◌, subst, arith, length-append, append_assoc, Result, Ok, Err}
+use Rattle.std.specs.Prelude.{IfErr}
 use Rattle.std.proofs.Math.Seq.{take-append-add}
 use Rattle.std.proofs.lemmas.List.{append-nil, take-append-le, take_all}
 use Rattle.ntfs_base.specs.Frames.{IsSettled, Origin, Puts, PutsPrefix}
 use Rattle.ntfs_base.specs.Sink.{Put, SinkState, after_put}
 use Rattle.ntfs_base.proofs.SinkLemmas.{after_put-append, after_put-nil}
+use Rattle.ntfs_clone.specs.declared.fault.CloneFault.{CloneFault}
+use Rattle.ntfs_clone.specs.declared.fault.CloneFault.TheVariants as clone
+use Rattle.ntfs_clone.specs.Fault.{IsSaveFault, IsWriteFault, clone_origin}
 use Rattle.ntfs_clone.specs.Saving.{IsSaved, Saves}
 
 -- ---- prefixes
@@ -187,3 +191,47 @@ pub puts-cut : {E : Type 0} (origin : E → Origin) (all : List ℕ) (before aft
     → PutsPrefix all before after → Puts origin (Ok all) before (Err e) after
 puts-cut origin all before after e fails prefix =
     record { answer = λ settled. absurd (fails settled); output = λ settled. absurd (fails settled); prefix = prefix }
+
+pub save-unsettled : (fault : CloneFault) → IsSaveFault fault → IsSettled (clone_origin fault) → ⊥
+save-unsettled (clone.BadClone place) is settled = is
+save-unsettled (clone.Damaged rule number) is settled = is
+save-unsettled clone.ReadFault is settled = settled
+save-unsettled clone.WriteFault is settled = settled
+save-unsettled clone.NoMemory is settled = settled
+
+pub write-unsettled : (result : Result (Unit {0}) CloneFault) → IfErr result IsWriteFault → (e : CloneFault) → result ≡ Err e → IsSettled (clone_origin e) → ⊥
+write-unsettled (Ok done) fails e is settled = absurd cc
+write-unsettled (Err fault) fails e is settled = let same : fault ≡ e = cc in of e (subst IsWriteFault same fails) settled
+  where
+    of : (fault : CloneFault) → IsWriteFault fault → IsSettled (clone_origin fault) → ⊥
+    of (clone.BadClone place) is settled = is
+    of (clone.Damaged rule number) is settled = is
+    of clone.ReadFault is settled = is
+    of clone.WriteFault is settled = settled
+    of clone.NoMemory is settled = settled
+
+-- nothing was put
+pub puts-nothing : (all : List ℕ) (sink : SinkState) (fault : CloneFault) → (IsSettled (clone_origin fault) → ⊥) → Puts clone_origin (Ok all) sink (Err fault) sink
+puts-nothing all sink fault fails = puts-cut clone_origin all sink sink fault fails (0, omega arith, sym (after_put-nil sink))
+
+-- the clusters were cut off
+pub puts-clusters : {T : Type 0} (all head body tail waiting held : List ℕ) (before now : SinkState) (fault : CloneFault) → all ≡ (head ++ body) ++ tail → waiting ≡ head → IsSaveFault fault
+    → Saves {T = T} body waiting before (Err fault) held now → Puts clone_origin (Ok all) before (Err fault) now
+puts-clusters all head body tail waiting held before now fault parts is fails saves =
+    puts-cut clone_origin all before now fault (save-unsettled fault fails)
+    (prefix-more all (waiting ++ body) tail before now (parts ∙ ap (λ xs. (xs ++ body) ++ tail) (sym is)) saves.part)
+
+-- all clusters were saved, and the tail was cut off
+pub puts-tail : {T U : Type 0} (all head body tail waiting held kept : List ℕ) (before now after : SinkState) (x : U) (fault : CloneFault) → all ≡ (head ++ body) ++ tail → waiting ≡ head → IsSaveFault fault
+    → Saves {E = CloneFault} body waiting before (Ok x) held now → Saves {T = T} tail held now (Err fault) kept after → Puts clone_origin (Ok all) before (Err fault) after
+puts-tail all head body tail waiting held kept before now after x fault parts is fails clusters saves =
+    puts-cut clone_origin all before after fault (save-unsettled fault fails)
+    (saved-cut all (waiting ++ body) tail [] held before now after (parts ∙ ap (λ xs. (xs ++ body) ++ tail) (sym is) ∙ sym (append-nil ((waiting ++ body) ++ tail))) clusters.whole saves.part)
+
+-- all was saved, and what waited was put
+pub puts-all : {U V : Type 0} (all head body tail waiting held kept : List ℕ) (before now then after : SinkState) (x : U) (y : V) (result : Result (Unit {0}) CloneFault) → all ≡ (head ++ body) ++ tail
+    → waiting ≡ head → IfErr result IsWriteFault → Saves {E = CloneFault} body waiting before (Ok x) held now → Saves {E = CloneFault} tail held now (Ok y) kept then → Put kept then result after
+    → Puts clone_origin (Ok all) before result after
+puts-all all head body tail waiting held kept before now then after x y result parts is fails clusters last put =
+    puts-saved clone_origin all kept before then after result (write-unsettled result fails)
+    (subst (λ xs. IsSaved xs before kept then) (sym (parts ∙ ap (λ xs. (xs ++ body) ++ tail) (sym is))) (saved-step (waiting ++ body) tail held kept before now then clusters.whole last.whole)) put

@@ -3,7 +3,7 @@ use Rattle.std.proofs.Common.{◌≡◌, ◌≤◌, ◌<◌, ◌+◌, ◌-◌, �
 use Rattle.std.proofs.Math.Dec.{eqb-suc-zero}
 use Rattle.std.proofs.lemmas.List.{append-nil, take_all}
 use Rattle.ntfs_base.specs.Bytes.{cluster_at}
-use Rattle.ntfs_clone.specs.CloneOf.{Volume, cluster_commands, saved_commands, tail_of, widened}
+use Rattle.ntfs_clone.specs.CloneOf.{Volume, clone_of, cluster_commands, header_bytes, saved_commands, saved_header, tail_of, widened}
 use Rattle.ntfs_clone.specs.Commands.{Command, gap, cluster, command_bytes, commands_bytes}
 use Rattle.ntfs_clone.specs.Saving.{IsStretch, spelled_gap, spelled_row}
 use Rattle.ntfs_clone.specs.declared.stretch.Stretch.{Stretch}
@@ -156,3 +156,10 @@ pub saved-parts : (v : Volume) → commands_bytes (saved_commands v) ≡ command
 saved-parts v =
     ap commands_bytes (commands-append v 0 v.clusters (tail_of v)) ∙ bytes-append (cluster_commands v 0 v.clusters []) (cluster (tail_of v) ∷ [])
     ∙ ap (λ xs. commands_bytes (cluster_commands v 0 v.clusters []) ++ xs) (append-nil (command_bytes (cluster (tail_of v))))
+
+-- the header, the commands of all clusters, and the tail
+pub clone-parts : (v : Volume) → clone_of v ≡ (header_bytes (saved_header v) ++ commands_bytes (cluster_commands v 0 v.clusters [])) ++ command_bytes (cluster (tail_of v))
+unfolding clone_of
+clone-parts v =
+    ap (λ xs. header_bytes (saved_header v) ++ xs) (saved-parts v)
+    ∙ sym (append_assoc (header_bytes (saved_header v)) (commands_bytes (cluster_commands v 0 v.clusters [])) (command_bytes (cluster (tail_of v))))
