@@ -7,3 +7,4 @@ pub mod TakingLemmas
 pub mod VolumeLemmas
 pub mod SavingLemmas
 pub mod WalkLemmas
+pub mod CopyingLemmas

@@ -203,7 +203,7 @@ length-device len old new (Ok x) is = subst (IsSameDevice old) (sym is.whole) (s
 length-device len old new (Err e) is =
     elim is.part [ inl same ↦ subst (IsSameDevice old) (sym same) (record { told = refl; bears = refl; over = refl }) | inr asked ↦ subst (IsSameDevice old) (sym asked) (same-length len old) ]
 
-told-length : (len : ℕ) (old : ImageState) → IsTrue old.is_told → (after_set_len len old).content ≡ resize_of len old.content
+pub told-length : (len : ℕ) (old : ImageState) → IsTrue old.is_told → (after_set_len len old).content ≡ resize_of len old.content
 unfolding after_set_len
 told-length len old told = both old.is_told told
   where

@@ -11,3 +11,4 @@ pub mod Restored
 pub mod Reading
 pub mod Writing
 pub mod Saving
+pub mod Copying

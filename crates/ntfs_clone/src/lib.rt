@@ -1,9 +1,10 @@
 //! Clone images: the clusters of a volume that its files own, in one stream. Here they are read, restored and
-//! saved.
+//! saved, and a volume is copied raw.
 #![tactic(auto)]
 
 mod backup;
 mod command;
+mod copying;
 mod fault;
 mod header;
 mod input;
@@ -18,6 +19,7 @@ mod volume;
 mod waiting;
 mod writing;
 
+pub use copying::copy_clusters;
 pub use fault::CloneFault;
 pub use header::{CloneHeader, read_header};
 pub use reading::read_commands;
