@@ -37,6 +37,10 @@ same-then a b c one other = record {
   size = other.size ∙ one.size;
 }
 
+-- the same file stays the same device
+pub same-device : (a b c : ImageState) → IsSameDevice a b → IsSameFile b c → IsSameDevice a c
+same-device a b c one other = record { told = other.same.told ∙ one.told; bears = other.same.bears ∙ one.bears; over = other.same.over ∙ one.over }
+
 -- one write was made, or it wasn't
 pub wrote-one : {T E : Type 0} (w : Write) (old new : ImageState) (fault : E) → Wrote {T = T} (w ∷ []) old (Err fault) new → IsTrue old.is_told
     → (new.content ≡ old.content) ⊎ (new.content ≡ overwrite w.place w.bytes old.content)
