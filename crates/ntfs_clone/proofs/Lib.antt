@@ -8,3 +8,4 @@ pub mod VolumeLemmas
 pub mod SavingLemmas
 pub mod WalkLemmas
 pub mod CopyingLemmas
+pub mod CopyLawLemmas
