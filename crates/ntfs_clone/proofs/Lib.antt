@@ -9,3 +9,5 @@ pub mod SavingLemmas
 pub mod WalkLemmas
 pub mod CopyingLemmas
 pub mod CopyLawLemmas
+pub mod ReadBackLemmas
+pub mod FewLemmas
