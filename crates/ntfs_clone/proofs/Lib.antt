@@ -4,3 +4,10 @@ pub mod ReadingLemmas
 pub mod HeaderLemmas
 pub mod SpellingLemmas
 pub mod TakingLemmas
+pub mod VolumeLemmas
+pub mod SavingLemmas
+pub mod WalkLemmas
+pub mod CopyingLemmas
+pub mod CopyLawLemmas
+pub mod ReadBackLemmas
+pub mod FewLemmas

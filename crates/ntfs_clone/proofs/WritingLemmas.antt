@@ -37,6 +37,10 @@ same-then a b c one other = record {
   size = other.size ∙ one.size;
 }
 
+-- the same file stays the same device
+pub same-device : (a b c : ImageState) → IsSameDevice a b → IsSameFile b c → IsSameDevice a c
+same-device a b c one other = record { told = other.same.told ∙ one.told; bears = other.same.bears ∙ one.bears; over = other.same.over ∙ one.over }
+
 -- one write was made, or it wasn't
 pub wrote-one : {T E : Type 0} (w : Write) (old new : ImageState) (fault : E) → Wrote {T = T} (w ∷ []) old (Err fault) new → IsTrue old.is_told
     → (new.content ≡ old.content) ⊎ (new.content ≡ overwrite w.place w.bytes old.content)
@@ -203,7 +207,7 @@ length-device len old new (Ok x) is = subst (IsSameDevice old) (sym is.whole) (s
 length-device len old new (Err e) is =
     elim is.part [ inl same ↦ subst (IsSameDevice old) (sym same) (record { told = refl; bears = refl; over = refl }) | inr asked ↦ subst (IsSameDevice old) (sym asked) (same-length len old) ]
 
-told-length : (len : ℕ) (old : ImageState) → IsTrue old.is_told → (after_set_len len old).content ≡ resize_of len old.content
+pub told-length : (len : ℕ) (old : ImageState) → IsTrue old.is_told → (after_set_len len old).content ≡ resize_of len old.content
 unfolding after_set_len
 told-length len old told = both old.is_told told
   where

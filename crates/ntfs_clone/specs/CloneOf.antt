@@ -1,11 +1,13 @@
 -- The clone image of a volume, as a save writes it: the header, then each owned cluster with its bytes, each longest
 -- row of others as one gap, and the tail, which holds the backup boot sector. The words are ours.
-use Rattle.std.specs.Prelude.{◌+◌, ◌-◌, ◌*◌, ℕ, zero, suc, Bool, List, [], ◌∷◌, ◌++◌, drop, replicate, take, if◌then◌else◌}
+use Rattle.std.specs.Prelude.{◌≡◌, ◌≤◌, ◌<◌, ◌+◌, ◌-◌, ◌*◌, ◌^◌, ℕ, zero, suc, Bool, true, List, [], ◌∷◌, ◌++◌, drop, length, replicate, take, if◌then◌else◌}
 use Rattle.byteorder.specs.Endian.{little_bytes}
 use Rattle.ntfs_base.specs.Bytes.{cluster_at}
 use Rattle.ntfs_base.specs.Growth.{resize_of}
+use Rattle.ntfs_bitmap.specs.ClusterSet.{Clusters, has}
+use Rattle.ntfs_boot.specs.declared.geometry.Geometry.{Geometry}
 use Rattle.ntfs_clone.specs.declared.header.CloneHeader.{CloneHeader}
-use Rattle.ntfs_clone.specs.Header.{clone_magic, clone_version}
+use Rattle.ntfs_clone.specs.Header.{clone_magic, clone_version, is_clone_cluster}
 use Rattle.ntfs_clone.specs.Commands.{Command, gap, cluster, commands_bytes}
 
 -- a volume to be saved: the sizes in bytes of a cluster and of the device, the number of clusters, which of them are
@@ -16,6 +18,29 @@ pub record Volume : Type 0 where
   pub device : ℕ
   pub owned : ℕ → Bool
   pub image : List ℕ
+
+-- the ranges of a volume that can be saved: those of a header, and an image that has all clusters
+pub record IsVolume (v : Volume) : Type 0 where
+  pub cluster : is_clone_cluster v.cluster ≡ true
+  pub device : v.device ≤ 2 ^ 62
+  pub held : v.clusters * v.cluster ≤ v.device
+  pub some_clusters : 0 < v.clusters
+  pub most_clusters : v.clusters < 2 ^ 32
+  pub bytes : v.clusters * v.cluster ≤ length v.image
+
+-- the bytes of a device that holds all sectors and behind them one more, the backup boot sector
+abbrev pub device_of : Geometry → ℕ
+device_of g = (g.sectors + 1) * g.sector
+
+-- the volume of an image with this geometry, of which these clusters are owned
+abbrev pub volume_of : Geometry → Clusters → List ℕ → Volume
+volume_of g owned image = record {
+  cluster = g.cluster;
+  clusters = g.clusters;
+  device = device_of g;
+  owned = has owned;
+  image = image;
+}
 
 -- a cluster that is left out widens the gap behind it
 abbrev pub widened : List Command → List Command

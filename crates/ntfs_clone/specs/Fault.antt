@@ -47,3 +47,10 @@ abbrev pub IsFileFault : CloneFault → Type 0
 IsFileFault clone.ReadFault = Unit {0}
 IsFileFault clone.WriteFault = Unit {0}
 IsFileFault other = ⊥
+
+-- a read of the volume or a put failed, or memory was wanting
+abbrev pub IsSaveFault : CloneFault → Type 0
+IsSaveFault clone.ReadFault = Unit {0}
+IsSaveFault clone.WriteFault = Unit {0}
+IsSaveFault clone.NoMemory = Unit {0}
+IsSaveFault other = ⊥

@@ -10,3 +10,5 @@ pub mod CloneOf
 pub mod Restored
 pub mod Reading
 pub mod Writing
+pub mod Saving
+pub mod Copying

@@ -9,7 +9,7 @@ use std::alloc::{AllocError, Global};
 use std::test::Fail;
 
 /// Writes a text over the bytes, where it lies in them.
-fn patch(bytes: &mut [u8], at: usize, text: &[u8]) {
+pub(crate) fn patch(bytes: &mut [u8], at: usize, text: &[u8]) {
     if at <= bytes.len() && text.len() <= bytes.len() - at {
         bytes[at..at + text.len()].copy_from_slice(text);
     }
@@ -254,7 +254,7 @@ fn each_command_is_refused_by_its_place(rt: HostRuntime) -> Result<(), Fail> {
 }
 
 /// An empty file of which the call of this number is to fail, where it isn't 0.
-fn empty_file(alloc: Global, call: u64, leaves: Leaves) -> Result<MemFile, AllocError>
+pub(crate) fn empty_file(alloc: Global, call: u64, leaves: Leaves) -> Result<MemFile, AllocError>
     ensures { IfOk result (λ file. (seen_mem_file file).size ≡ 0) }
 {
     let mut inside = MemContent::new(alloc, Vec::new(alloc));
@@ -266,7 +266,11 @@ fn empty_file(alloc: Global, call: u64, leaves: Leaves) -> Result<MemFile, Alloc
 }
 
 /// Restores an image to an empty file.
-fn restore_into(alloc: Global, bytes: Vec<u8>, target: &mut MemFile) -> Result<(), CloneFault>
+pub(crate) fn restore_into(
+    alloc: Global,
+    bytes: Vec<u8>,
+    target: &mut MemFile,
+) -> Result<(), CloneFault>
     requires { (seen_mem_file target.old).size ≡ 0 }
 {
     let mut source = MemSource::new(alloc, bytes);
@@ -275,7 +279,7 @@ fn restore_into(alloc: Global, bytes: Vec<u8>, target: &mut MemFile) -> Result<(
 }
 
 /// Whether the bytes are so many of each of these, in their order.
-fn has_runs(bytes: &[u8], runs: &[(usize, u8)]) -> bool {
+pub(crate) fn has_runs(bytes: &[u8], runs: &[(usize, u8)]) -> bool {
     let mut left = bytes;
     for (count, byte) in runs {
         match left.split_at_checked(*count) {

@@ -10,3 +10,4 @@ pub mod CloneLemmas
 pub mod MembersLemmas
 pub mod GatheredLemmas
 mod SpanLemmas
+pub mod WalkLemmas

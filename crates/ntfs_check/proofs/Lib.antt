@@ -1,6 +1,0 @@
-mod ClaimLemmas
-mod SearchLemmas
-mod BitmapLemmas
-mod NameLemmas
-mod AskedLemmas
-mod MarkLemmas

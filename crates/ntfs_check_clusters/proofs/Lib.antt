@@ -1,0 +1,9 @@
+mod ClaimLemmas
+mod SearchLemmas
+mod BitmapLemmas
+mod NameLemmas
+mod AskedLemmas
+mod MarkLemmas
+mod SurveyLemmas
+mod StreamLemmas
+mod FirstLemmas

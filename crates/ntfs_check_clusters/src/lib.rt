@@ -1,0 +1,16 @@
+//! Whether a volume is accepted: sixteen rules, in their order.
+#![tactic(auto)]
+
+mod asked;
+mod bitmap;
+mod claims;
+mod clusters;
+mod gathered;
+mod marks;
+mod search;
+mod surveyed;
+
+pub use clusters::check_clusters;
+
+#[cfg(test)]
+mod tests;
