@@ -1,0 +1,106 @@
+#!/usr/bin/env python3
+"""Computes both sides of the law on attribute lists: on an accepted volume the extents that an attribute list names are all
+attributes of that type and name in the records whose base references name the file, in the order of their lowest VCNs.
+
+    base_references.py [VOLUME ..]
+
+It takes the made volumes of seeds 0, 1 and 2 by the independent generator, stock volumes where ntfs-3g is installed and volumes
+can be mounted (one with a file in many extents), and the volumes that are named. Its reading of a volume is that of tools/check.py.
+It ends with 1 where a stream differs.
+"""
+import pathlib
+import random
+import shutil
+import sys
+import tempfile
+
+sys.dont_write_bytecode = True
+TOP = pathlib.Path(__file__).resolve().parent.parent
+sys.path[:0] = [str(TOP / "bench"), str(TOP / "tools")]
+import check
+import make_reference
+from measure import mounted, stock_volume
+
+
+def read(image):
+    """The volume as the rules up to C12 leave it, or the refusal."""
+    volume = check.Volume(image)
+    for rule in (check.rule_c1, check.rule_c2, check.rule_c3, check.rule_c4, check.rule_c5, check.rule_c6, check.rule_c7,
+                 check.rule_c8, check.rule_c9, check.rule_c10, check.rule_c11, check.rule_c12):
+        rule(volume)
+    return volume
+
+
+def by_base_references(volume, base, kind, name):
+    """The attributes of that type and name in the base record and in the records that name it as their base."""
+    return [attribute for number in [base, *volume.extensions(base)] for attribute in volume.records[number].attributes
+            if (attribute.type, attribute.name) == (kind, name)]
+
+
+def order(attribute):
+    return attribute.lowest if attribute.nonresident else 0
+
+
+def compared(volume):
+    """How many streams there are, in how many extents, and those of which the two sides differ."""
+    streams = extents = 0
+    wrong = []
+    for base, record in volume.base_records():
+        everything = [attribute for number in [base, *volume.extensions(base)] for attribute in volume.records[number].attributes]
+        has_list = any(attribute.type == check.ATTRIBUTE_LIST for attribute in record.attributes)
+        for kind, name in sorted({(attribute.type, attribute.name) for attribute in everything}):
+            if kind == check.ATTRIBUTE_LIST and has_list:
+                continue
+            listed = check.attributes_of(volume, base, lambda t, n: (t, n) == (kind, name))
+            held = by_base_references(volume, base, kind, name)
+            streams += 1
+            extents += len(listed)
+            lows = [order(attribute) for attribute in listed]
+            same = len(listed) == len(held) and all(any(one is other for other in held) for one in listed)
+            if not same or lows != sorted(lows):
+                wrong.append((base, hex(kind), name))
+    return streams, extents, wrong
+
+
+def report(heading, image):
+    try:
+        volume = read(image)
+    except check.Refused as refusal:
+        print(f"{heading}: {refusal}")
+        return True
+    streams, extents, wrong = compared(volume)
+    print(f"{heading}: {streams} streams in {extents} extents, {len(wrong)} differ", *wrong)
+    return not wrong
+
+
+def fragmented(folder):
+    """A stock volume with a file in some thousand extents, in extension records: two files are written by turns, a cluster each,
+    and one is removed."""
+    volume = pathlib.Path(folder) / "stock"
+    stock_volume(volume, 4096, 64 << 20)
+    dice = random.Random(1)
+    with mounted(volume) as top:
+        for number in range(200):
+            (top / f"file {number}").write_bytes(bytes(dice.randrange(3) * 3000))
+        with open(top / "kept", "ab", buffering=0) as kept, open(top / "gone", "ab", buffering=0) as gone:
+            for number in range(3000):
+                kept.write(b"k" * 4096)
+                gone.write(b"g" * 4096)
+        (top / "gone").unlink()
+    return volume.read_bytes()
+
+
+def main(names):
+    right = True
+    for seed in (0, 1, 2):
+        right &= report(f"made, seed {seed}", bytes(make_reference.image(seed, 1024, 4096)))
+    for name in names:
+        right &= report(name, pathlib.Path(name).read_bytes())
+    if shutil.which("mkntfs") and shutil.which("ntfs-3g"):
+        with tempfile.TemporaryDirectory() as folder:
+            right &= report("stock, with a file in many extents", fragmented(folder))
+    sys.exit(0 if right else 1)
+
+
+if __name__ == "__main__":
+    main(sys.argv[1:])
