@@ -9,7 +9,6 @@ can be mounted (one with a file in many extents), and the volumes that are named
 It ends with 1 where a stream differs.
 """
 import pathlib
-import random
 import shutil
 import sys
 import tempfile
@@ -74,20 +73,26 @@ def report(heading, image):
 
 
 def fragmented(folder):
-    """A stock volume with a file in some thousand extents, in extension records: two files are written by turns, a cluster each,
-    and one is removed."""
+    """A stock volume with a file in many extents, in extension records: small files fill the volume, each second one is removed, and
+    one file takes what is free then."""
     volume = pathlib.Path(folder) / "stock"
-    stock_volume(volume, 4096, 64 << 20)
-    dice = random.Random(1)
+    stock_volume(volume, 4096, 32 << 20)
     with mounted(volume) as top:
-        for number in range(200):
-            (top / f"file {number}").write_bytes(bytes(dice.randrange(3) * 3000))
-        with open(top / "kept", "ab", buffering=0) as kept, open(top / "gone", "ab", buffering=0) as gone:
-            for number in range(3000):
-                kept.write(b"k" * 4096)
-                gone.write(b"g" * 4096)
-        (top / "gone").unlink()
+        names = [top / f"file {number}" for number in range(8000)]
+        filled = [name for name in names if written(name, 4096)]
+        for name in filled[::2]:
+            name.unlink()
+        written(top / "kept", 4096 * 2000)
     return volume.read_bytes()
+
+
+def written(name, size):
+    """Whether a file was written whole; what there was no room for stays cut."""
+    try:
+        name.write_bytes(b"k" * size)
+        return True
+    except OSError:
+        return False
 
 
 def main(names):
