@@ -1,0 +1,6 @@
+mod RowLemmas
+mod AskedLemmas
+mod SearchLemmas
+mod RuleLemmas
+mod NameLemmas
+mod LeadLemmas

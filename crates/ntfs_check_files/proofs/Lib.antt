@@ -1,0 +1,11 @@
+mod RecordLemmas
+mod BaseLemmas
+mod SearchLemmas
+mod RuleLemmas
+mod CollectLemmas
+mod AnswerLemmas
+mod FileLemmas
+mod ListLemmas
+mod ListedLemmas
+mod CompareLemmas
+mod MemberLemmas

@@ -1,0 +1,4 @@
+mod PlaceLemmas
+mod RowLemmas
+mod FixedLemmas
+mod MirrorLemmas
