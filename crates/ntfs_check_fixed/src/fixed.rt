@@ -82,21 +82,27 @@ fn stream_holds<G: Image>(
     ensures reads { OnlyReads G.Image check_origin image.old image.new result }
 {
     let has_list = has_list(alloc, image, table, number_of(row))?;
-    let found = find_stream(alloc, image, table, number_of(row), kind_of(row), name_of(row))?;
+    let found = find_stream(
+        alloc,
+        image,
+        table,
+        number_of(row),
+        kind_of(row),
+        name_of(row),
+    )?;
     match found {
         None => Ok(false),
-        Some(stream) => Ok(stream_row(
-            table.geometry(),
-            table.runs(),
-            has_list,
-            row,
-            &stream,
-        )),
+        Some(stream) => Ok(stream_row(table.geometry(), table.runs(), has_list, row, &stream)),
     }
 }
 
 /// A record is as its row says.
-fn holds<G: Image>(alloc: Global, image: &mut G, table: &Table, row: Row) -> Result<bool, CheckFault>
+fn holds<G: Image>(
+    alloc: Global,
+    image: &mut G,
+    table: &Table,
+    row: Row,
+) -> Result<bool, CheckFault>
     requires held { HasClusters (G.seen image.old).size table.now }
     ensures found { IfTold G.Image image.old (λ content. IfOk result (λ is. is
         ≡ holds_in table.now (cluster_at content table.now.geometry.cluster) row)) }

@@ -137,11 +137,7 @@ fn check_against<G: Image>(
 }
 
 /// Rule C16: records 0 to 3 of $MFT have copies in the mirror.
-pub fn check_mirror<G: Image>(
-    alloc: Global,
-    image: &mut G,
-    table: &Table,
-) -> Result<(), CheckFault>
+pub fn check_mirror<G: Image>(alloc: Global, image: &mut G, table: &Table) -> Result<(), CheckFault>
     requires held { HasClusters (G.seen image.old).size table.now }
     ensures gives { IfTold G.Image image.old (λ content.
         let v = volume_data table.now (cluster_at content table.now.geometry.cluster) in

@@ -15,9 +15,12 @@ runs-preserved c =
     let n = (get_or c.args.runs.now c.runs.run-index no_run).length in
     record {
       below = cells-behind c.args.runs.now c.runs.run-index c.args.clusters c.runs-test.true c.runs.invariant.below;
-      place = (at.0 + n, omega (arith, at.1, c.saturating_add-vcn.ensures),
-          place-right c.args.runs.now c.runs.run-index at.0 (2 ^ 64 - 1) c.runs.vcn c.args.clusters c.is_in_place.result _ c.runs-test.true c.runs.invariant.below (omega (arith, c.requires.few)) at.1
-          c.is_in_place.ensures c.if-not-is_in_place.false at.2);
+      place = (
+        at.0 + n,
+        omega (arith, at.1, c.saturating_add-vcn.ensures),
+        place-right c.args.runs.now c.runs.run-index at.0 (2 ^ 64 - 1) c.runs.vcn c.args.clusters c.is_in_place.result _ c.runs-test.true c.runs.invariant.below (omega (arith, c.requires.few)) at.1
+            c.is_in_place.ensures c.if-not-is_in_place.false at.2,
+      );
     }
 
 pub returns : goal.returns
