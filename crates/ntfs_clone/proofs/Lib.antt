@@ -11,3 +11,4 @@ pub mod CopyingLemmas
 pub mod CopyLawLemmas
 pub mod ReadBackLemmas
 pub mod FewLemmas
+pub mod OpenedLemmas

@@ -1,7 +1,10 @@
 //! Laws of the definitions, each the contract of a function that does nothing.
 
 ghost use Rattle.std.specs.Prelude.{◌≡◌, ◌≤◌, ◌+◌, ◌*◌, ◌⊎◌, ℕ, List, Ok, false, length, slice_index};
-ghost use Rattle.ntfs_clone.specs.CloneOf.{IsVolume, Volume, clone_of, saved_commands, saved_header};
+ghost use Rattle.ntfs_bitmap.specs.ClusterSet.{Clusters};
+ghost use Rattle.ntfs_boot.specs.Geometry.{IsOpened};
+ghost use Rattle.ntfs_boot.specs.declared.geometry.Geometry.{Geometry};
+ghost use Rattle.ntfs_clone.specs.CloneOf.{IsVolume, Volume, clone_of, saved_commands, saved_header, volume_of};
 ghost use Rattle.ntfs_clone.specs.Commands.{AreInOrder, Command, clone_commands, commands_bytes, covered, read_clone};
 ghost use Rattle.ntfs_clone.specs.Copying.{IsPartCopy, copy_of};
 ghost use Rattle.ntfs_clone.specs.Header.{IsHeader};
@@ -23,9 +26,11 @@ pub fn copies_are_what_clones_restore()
         → (slice_index content i ≡ 0) ⊎ (slice_index content i ≡ slice_index (copy_of v) i) }
 {}
 
-/// What a save of a volume wrote is read: its header, and its commands.
+/// What a save of a volume wrote is read: its header, and its commands. The volume of an opened image can be saved.
 pub fn saved_clones_are_read()
-    ensures { (v : Volume) → IsVolume v
+    ensures opened { (g : Geometry) (owned : Clusters) (image : List ℕ) → IsOpened (length image) g
+        → IsVolume (volume_of g owned image) }
+    ensures read { (v : Volume) → IsVolume v
         → read_clone (clone_of v) ≡ Ok (record { header = saved_header v; commands = saved_commands v }) }
 {}
 

@@ -73,10 +73,13 @@ fn copy<G: Image>(
     Ok(copy_clusters(alloc, image, &geometry, &owned, target))
 }
 
-/// The header of a clone of a volume of 10 clusters in 21 sectors, of which so many clusters are in use.
+/// The header of a clone of 10 clusters of 1,024 bytes in 21 sectors, of which none is in use.
+const HEADER: [u8; 56] =
+    *b"\0ntfsclone-image\x0A\0\0\x04\0\0\0\x2C\0\0\0\0\0\0\x0A\0\0\0\0\0\0\0\x00\0\0\0\0\0\0\0\x38\0\0\0\0\0\0\0\0\0";
+
+/// The same, where so many are in use.
 fn header(in_use: u8) -> [u8; 56] {
-    let mut front =
-        *b"\0ntfsclone-image\x0A\0\0\x04\0\0\0\x2C\0\0\0\0\0\0\x0A\0\0\0\0\0\0\0\x00\0\0\0\0\0\0\0\x38\0\0\0\0\0\0\0\0\0";
+    let mut front = HEADER;
     front[38] = in_use;
     front
 }
