@@ -5,7 +5,7 @@ ghost use Rattle.std.specs.Prelude.{◌<◌, ◌^◌};
 use crate::{check_base_references, check_lists};
 use ntfs_base::{Image, MemImage, Rule};
 use ntfs_rules::CheckFault;
-use ntfs_volume::{VolumeFault, open_volume};
+use ntfs_volume::{VolumeFault, read_table};
 use std::alloc::{AllocError, Global};
 use std::test::Fail;
 
@@ -113,11 +113,11 @@ fn volume_fault(fault: VolumeFault) -> CheckFault {
 
 /// Rules C10 and C11 of a volume at a type that is known by its bound alone.
 fn check_in<G: Image>(alloc: Global, image: &mut G) -> Result<(), CheckFault> {
-    match open_volume(alloc, image) {
+    match read_table(alloc, image) {
         Err(fault) => Err(volume_fault(fault)),
-        Ok(volume) => {
-            check_base_references(alloc, &mut *volume.image, &volume.table)?;
-            check_lists(alloc, &mut *volume.image, &volume.table)
+        Ok(table) => {
+            check_base_references(alloc, image, &table)?;
+            check_lists(alloc, image, &table)
         }
     }
 }
