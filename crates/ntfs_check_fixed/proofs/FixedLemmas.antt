@@ -5,6 +5,7 @@ use Rattle.ntfs_base.specs.Checks.{first_wrong}
 use Rattle.ntfs_base.specs.Frames.{Gives, must, ◌>>=◌}
 use Rattle.ntfs_base.specs.declared.refusal.Rule.TheVariants as rule
 use Rattle.ntfs_boot.specs.declared.geometry.Geometry.{Geometry}
+use Rattle.ntfs_check_fixed.specs.Facts.{HasNoValue}
 use Rattle.ntfs_check_fixed.specs.Rows.{HasNoCells, found_by, kind_of, name_of, number_of, row_check, stream_holds_in, stream_row}
 use Rattle.ntfs_check_fixed.specs.declared.rows.Row.{Row}
 use Rattle.ntfs_check_fixed.specs.declared.rows.Row.TheVariants as row
@@ -38,7 +39,7 @@ and-false false = refl
 -- ---- a value has no clusters
 
 abbrev IfFound : Result (Gathered ℕ) VolumeFault → Type 0
-IfFound (Ok found) = HasNoCells found.stream
+IfFound (Ok found) = HasNoCells found.stream × HasNoValue found.stream
 IfFound (Err fault) = Unit {0}
 
 runs-found : (c r : ℕ) (first : Part ℕ) (ps : List (Part ℕ)) → IfFound (stream_of_runs c r first ps)
@@ -46,7 +47,7 @@ unfolding stream_of_runs
 runs-found c r first ps = by_right (all_right ps)
   where
     by_room : (b : Bool) → IfFound (must b (volume.Damaged rule.C12 r) >>= (λ _. Ok (gathered_at first (length ps) (runs_stream first.flags first.size first.valid (cells_in ps)))))
-    by_room true = λ e. absurd cc
+    by_room true = (λ e. absurd cc, λ e. refl)
     by_room false = tt
 
     by_right : (o : Result (Unit {0}) VolumeFault) → IfFound (o >>= (λ _. must (join_from 0 ps && have_room c (length (cells_in ps)) first.size first.valid) (volume.Damaged rule.C12 r)
@@ -60,7 +61,7 @@ parts-found c r [] = tt
 parts-found c r (first ∷ ps) = go first.is_resident
   where
     go : (b : Bool) → IfFound (if b then Ok (gathered_at first (length (first ∷ ps)) (value_stream first.flags first.value)) else stream_of_runs c r first (first ∷ ps))
-    go true = λ e. refl
+    go true = (λ e. refl, λ e. absurd cc)
     go false = runs-found c r first (first ∷ ps)
 
 extents-found : (c r : ℕ) (o : Result (List (Extent (Located (Laid (Cells ℕ))))) VolumeFault) → IfFound (o >>= (λ found. stream_of c r (map part_of found)))
@@ -71,8 +72,11 @@ gather-found : (g : Geometry) (m : Map) (f : ℕ → List ℕ) (r kind : ℕ) (n
 unfolding gather_of gather
 gather-found g m f r kind name = extents-found g.cluster r (extents (lists_of g f (slots_of g m f)) (with_cells g.clusters (slots_of g m f)) r kind name)
 
+pub is-plain : (g : Geometry) (m : Map) (f : ℕ → List ℕ) (r kind : ℕ) (name : List ℕ) (found : Gathered ℕ) → gather_of g m f r kind name ≡ Ok found → HasNoCells found.stream × HasNoValue found.stream
+is-plain g m f r kind name found is = subst IfFound is (gather-found g m f r kind name)
+
 pub value-has-none : (g : Geometry) (m : Map) (f : ℕ → List ℕ) (r kind : ℕ) (name : List ℕ) (found : Gathered ℕ) → gather_of g m f r kind name ≡ Ok found → HasNoCells found.stream
-value-has-none g m f r kind name found is = subst IfFound is (gather-found g m f r kind name)
+value-has-none g m f r kind name found is = (is-plain g m f r kind name found is).0
 
 -- ---- the root directory
 
@@ -186,7 +190,7 @@ rows-are : (o : Opened) (f : ℕ → List ℕ) → c15 o.geometry o.map.clusters
 unfolding c15 gather_of
 rows-are o f = refl
 
-fixed-is : (o : Opened) (f : ℕ → List ℕ) → c15 (volume_data o f).geometry (map (λ (k : Cluster). k.number) (volume_data o f).table) (listings (volume_data o f)) (numbers (volume_data o f))
+pub fixed-is : (o : Opened) (f : ℕ → List ℕ) → c15 (volume_data o f).geometry (map (λ (k : Cluster). k.number) (volume_data o f).table) (listings (volume_data o f)) (numbers (volume_data o f))
     ≡ first_wrong (map (row_check o f) all_rows)
 unfolding volume_data
 fixed-is o f =

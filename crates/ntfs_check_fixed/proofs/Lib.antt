@@ -2,3 +2,4 @@ mod PlaceLemmas
 mod RowLemmas
 mod FixedLemmas
 mod MirrorLemmas
+mod FactLemmas

@@ -4,8 +4,13 @@
 
 mod cells;
 mod fixed;
+mod known;
 mod mirror;
 mod rows;
 
 pub use fixed::check_fixed_records;
+pub use known::{Facts, read_facts};
 pub use mirror::check_mirror;
+
+#[cfg(test)]
+mod tests;

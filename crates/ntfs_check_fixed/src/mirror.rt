@@ -35,7 +35,7 @@ fn is_same_at(block: &[u8], copy: &[u8], place: usize) -> bool
 }
 
 /// Two records are the same in the bytes in use of the first but for its fixup array.
-fn is_copy(block: &[u8], copy: &[u8]) -> bool
+pub(crate) fn is_copy(block: &[u8], copy: &[u8]) -> bool
     requires header { 48 ≤ length block.now }
     requires long { length copy.now ≡ length block.now }
     ensures { result ≡ is_copy block.now copy.now }

@@ -1,11 +1,12 @@
 //! The rows of rule C15: what each record with a fixed number has to be.
 
-ghost use Rattle.std.specs.Prelude.{◌≡◌, ◌≤◌, ◌+◌, ◌^◌, ◌&&◌, ◌∷◌, [], length, Ok, Some};
+ghost use Rattle.std.specs.Prelude.{◌≡◌, ◌≤◌, ◌+◌, ◌^◌, ◌&&◌, ◌∷◌, [], length, true, ℕ, Ok, Some};
 ghost use Rattle.ntfs_base.specs.Bytes.{clusters_for, number_at};
 ghost use Rattle.ntfs_boot.specs.Geometry.{IsGood};
 ghost use Rattle.ntfs_check_fixed.specs.Rows.{HasNoCells, has_version, kind_of, name_of, number_of, stream_row};
 ghost use Rattle.ntfs_rules.specs.FixedRecords.{begin_with, is_bitmap, is_solid};
 ghost use Rattle.ntfs_rules.specs.FixedRecords as rules;
+ghost use Rattle.ntfs_runs.specs.Cells.{are_cells};
 ghost use Rattle.ntfs_runs.specs.Clusters.{AreWithin, row, vcns};
 ghost use Rattle.ntfs_volume.specs.Gather.{Lists};
 ghost use Rattle.ntfs_volume.specs.StreamBytes.{clusters_in};
@@ -85,8 +86,10 @@ fn is_resident(stream: &Stream) -> bool
 }
 
 /// The runs of a stream; a resident one has none.
-fn runs_of(stream: &Stream) -> &[Run]
+pub(crate) fn runs_of(stream: &Stream) -> &[Run]
     ensures cells { HasNoCells stream.now.stream → vcns result.now ≡ stream.now.stream.cells }
+    ensures below { (n : ℕ) → are_cells true n stream.now.stream.cells ≡ true
+        → are_cells true n (vcns result.now) ≡ true }
     ensures within { AreWithin result.now }
 {
     match stream.runs() {

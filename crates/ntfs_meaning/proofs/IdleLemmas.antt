@@ -1,17 +1,17 @@
 -- Records that aren't in use mean nothing, and the flags of those that are say nothing.
-use Rattle.std.proofs.Common.{◌≡◌, ◌&&◌, ◌||◌, ℕ, zero, suc, Bool, true, false, List, [], ◌∷◌, Option, Some, None, refl, ap, ◌∙◌, if◌then◌else◌}
+use Rattle.std.proofs.Common.{◌≡◌, ◌||◌, ℕ, zero, suc, Bool, true, false, List, [], ◌∷◌, Option, Some, None, refl, ap, ◌∙◌, if◌then◌else◌}
 use Rattle.std.specs.Prelude.{not}
 use Rattle.std.specs.List.{AllByRecursion}
 use Rattle.ntfs_meaning.proofs.ThereLemmas.{c4-clear, passed-step}
-use Rattle.ntfs_meaning.specs.Meaning.{Meaning, meaning}
-use Rattle.ntfs_record.specs.FileRecord.{Attribute, FileRecord, Head, Laid}
+use Rattle.ntfs_meaning.specs.Meaning.{meaning}
+use Rattle.ntfs_record.specs.FileRecord.{Attribute, FileRecord, Head}
 use Rattle.ntfs_record.specs.Slots.{Slot, begins_baad, first_not, is_in_use, map_slot, map_slots, record_in, tells_own}
 use Rattle.ntfs_rules.specs.Accepts.{fault_of}
 use Rattle.ntfs_rules.specs.Records.{c4}
 use Rattle.ntfs_rules.specs.VolumeData.{VolumeData, volume_data}
 use Rattle.ntfs_survey.specs.Owned.{is_whole}
 use Rattle.ntfs_volume.proofs.AnswerLemmas.{and-left, and-right}
-use Rattle.ntfs_volume.specs.Located.{Located, idle, live_located, located_slot, slot_at, slots_from, slots_of, sound_located, unsound_located, with_cells}
+use Rattle.ntfs_volume.specs.Located.{idle, live_located, located_slot, slot_at, slots_from, slots_of, sound_located, unsound_located, with_cells}
 use Rattle.ntfs_volume.specs.Opened.{Opened}
 use Rattle.ntfs_volume.specs.Records.{raw_record}
 

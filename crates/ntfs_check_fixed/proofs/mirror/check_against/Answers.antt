@@ -1,4 +1,4 @@
-use Rattle.std.proofs.Common.{◌≡◌, ◌*◌, ◌∙◌, ap, sym, subst, arith, length}
+use Rattle.std.proofs.Common.{◌≡◌, ◌*◌, ◌∙◌, ap, subst, arith, length}
 use Rattle.ntfs_base.specs.Bytes.{cluster_at}
 use Rattle.ntfs_check_fixed.proofs.MirrorLemmas.{against-given}
 use Rattle.ntfs_check_fixed.proofs.mirror.check_against.Goals as goal

@@ -1,5 +1,11 @@
-use Rattle.ntfs_check_fixed.proofs.RowLemmas.{cells-none}
+use Rattle.ntfs_check_fixed.proofs.RowLemmas.{cells-none, no-runs-below, some-below}
 use Rattle.ntfs_check_fixed.proofs.rows.runs_of.Goals as goal
 
 pub returns-in-None-clause-cells : goal.returns-in-None-clause-cells
 returns-in-None-clause-cells c = λ none. cells-none c.args.stream.now.stream none c.in-None.ensures.cells
+
+pub returns-in-None-clause-below : goal.returns-in-None-clause-below
+returns-in-None-clause-below c = λ n are. no-runs-below n
+
+pub returns-in-Some-clause-below : goal.returns-in-Some-clause-below
+returns-in-Some-clause-below c = λ n are. some-below c.args.stream.now.stream _ n c.in-Some.ensures.cells are
