@@ -1,0 +1,11 @@
+mod RecordLemmas
+mod SearchLemmas
+mod NamedLemmas
+mod JoinLemmas
+mod FitLemmas
+mod SaidLemmas
+mod IdLemmas
+mod WalkLemmas
+mod ListedLemmas
+mod FileLemmas
+mod RuleLemmas

@@ -1,0 +1,13 @@
+//! Rule C12: in each base record, attributes of one type and name are one stream.
+#![tactic(auto)]
+
+mod asked;
+mod file;
+mod join;
+mod list;
+mod named;
+mod records;
+mod rules;
+mod search;
+
+pub use rules::check_streams;
