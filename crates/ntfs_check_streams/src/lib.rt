@@ -11,3 +11,6 @@ mod rules;
 mod search;
 
 pub use rules::check_streams;
+
+#[cfg(test)]
+mod tests;
