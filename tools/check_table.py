@@ -92,7 +92,7 @@ def pairs(found):
     rows, met = [], set()
     for (rule, number), some in sorted(found.items(), key=lambda item: (int(item[0][0][1:]), item[0][1])):
         for row in some:
-            if row[1].startswith("pair:") and rule not in met and len(rows) < PAIRS:
+            if row[1].startswith("pair:") and rule != "C3" and rule not in met and len(rows) < PAIRS:
                 met.add(rule)
                 rows.append((rule, number, row))
     return rows

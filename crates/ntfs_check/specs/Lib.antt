@@ -1,0 +1,3 @@
+pub use Rattle.ntfs_rules.specs.Accepts
+pub use Rattle.ntfs_rules.specs.Outcome
+pub mod Judged
