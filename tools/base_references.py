@@ -5,7 +5,7 @@ attributes of that type and name in the records whose base references name the f
     base_references.py [VOLUME ..]
 
 It takes the made volumes of seeds 0, 1 and 2 by the independent generator, stock volumes where ntfs-3g is installed and volumes
-can be mounted (one with a file in many extents), and the volumes that are named. Its reading of a volume is that of tools/check.py.
+can be mounted (one with a file in many extents, and those of tools/peers.py), and the volumes that are named. Its reading of a volume is that of tools/check.py.
 It ends with 1 where a stream differs.
 """
 import pathlib
@@ -18,6 +18,7 @@ TOP = pathlib.Path(__file__).resolve().parent.parent
 sys.path[:0] = [str(TOP / "bench"), str(TOP / "tools")]
 import check
 import make_reference
+import peers
 from measure import mounted, stock_volume
 
 
@@ -104,6 +105,8 @@ def main(names):
     if shutil.which("mkntfs") and shutil.which("ntfs-3g"):
         with tempfile.TemporaryDirectory() as folder:
             right &= report("stock, with a file in many extents", fragmented(folder))
+            for cluster in (512, 4096, 65_536):
+                right &= report(f"stock, clusters of {cluster} bytes", peers.filled(pathlib.Path(folder), cluster).read_bytes())
     sys.exit(0 if right else 1)
 
 
