@@ -38,8 +38,8 @@ pub fn accepted_streams_are_there()
         → Contains s.stream.cells (Some k) → Contains t.stream.cells (Some k) → ⊥ }
 {}
 
-/// On a volume that breaks no rule a record that isn't in use says nothing, not even that it is torn; and one that is in
-/// use says nothing by the flags of its slot, which are always the same.
+/// On a volume that breaks no rule a record that isn't in use says nothing, not even that it is torn; and one that is
+/// in use says nothing by the flags of its slot, which are always the same.
 pub fn records_not_in_use_mean_nothing()
     ensures idle { (o : Opened) (f : ℕ → List ℕ) (n : ℕ) → fault_of (volume_data o f) ≡ None
         → (slot_at (meaning (volume_data o f)) n).is_live ≡ false

@@ -158,8 +158,8 @@ fn a_fault_of_the_image_of_a_listed_stream_is_a_read_fault(rt: HostRuntime) -> R
     Ok(())
 }
 
-/// Each call that a tool makes on a made volume fails alone: by a path the root's index is walked first. Where the first
-/// read fails, nothing was put.
+/// Each call that a tool makes on a made volume fails alone: by a path the root's index is walked first. Where the
+/// first read fails, nothing was put.
 #[test]
 fn a_fault_of_the_image_by_a_path_is_a_read_fault(rt: HostRuntime) -> Result<(), Fail> {
     let alloc = rt.alloc();

@@ -83,8 +83,8 @@ fn words_are_whole(rt: &impl Abort, host: &HostRuntime) -> Result<bool, Fail> {
     }
 }
 
-/// Runs a tool that shows over a made volume, by a path where it takes one: whether it was done. Where it wasn't, memory
-/// was wanting, a front of the output was put, and nothing is changed.
+/// Runs a tool that shows over a made volume, by a path where it takes one: whether it was done. Where it wasn't,
+/// memory was wanting, a front of the output was put, and nothing is changed.
 fn show_is_done(
     rt: &impl Abort,
     host: &HostRuntime,
