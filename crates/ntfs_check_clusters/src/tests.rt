@@ -33,7 +33,7 @@ struct Data<'a> {
 }
 
 /// Puts a record in use at its place, with a stream at 80, behind an empty attribute.
-fn record(bytes: &mut [u8], number: u16, base: u64, data: Data<'_>) {
+fn record(bytes: &mut [u8], number: u16, base: u64, stream: Data<'_>) {
     let at = record_at(number);
     patch(bytes, at, b"FILE\x30\0\x03\0");
     patch(
@@ -48,20 +48,20 @@ fn record(bytes: &mut [u8], number: u16, base: u64, data: Data<'_>) {
     patch(bytes, at + 1022, &[5, 0]);
     patch(bytes, at + 56, &[0x10, 0, 0, 0, 24, 0, 0, 0, 0, 0, 24, 0]);
     patch(bytes, at + 56 + 0x14, &[24, 0]);
-    put_data(bytes, at + 80, data);
+    put_data(bytes, at + 80, stream);
 }
 
 /// Puts a stream at a place, as the last attribute of its record.
-fn put_data(bytes: &mut [u8], at: usize, data: Data<'_>)
+fn put_data(bytes: &mut [u8], at: usize, stream: Data<'_>)
     requires { at < 2 ^ 32 }
 {
     patch(bytes, at, &[0x80, 0, 0, 0, 80, 0, 0, 0, 1, 0, 64, 0]);
-    patch(bytes, at + 0x10, &data.lowest.to_le_bytes());
-    patch(bytes, at + 0x18, &data.next.wrapping_sub(1).to_le_bytes());
+    patch(bytes, at + 0x10, &stream.lowest.to_le_bytes());
+    patch(bytes, at + 0x18, &stream.next.wrapping_sub(1).to_le_bytes());
     patch(bytes, at + 0x20, &[64, 0]);
-    patch(bytes, at + 0x30, &data.size.to_le_bytes());
-    patch(bytes, at + 0x38, &data.size.to_le_bytes());
-    patch(bytes, at + 64, data.pairs);
+    patch(bytes, at + 0x30, &stream.size.to_le_bytes());
+    patch(bytes, at + 0x38, &stream.size.to_le_bytes());
+    patch(bytes, at + 64, stream.pairs);
     patch(bytes, at + 80, &[0xFF; 4]);
 }
 
