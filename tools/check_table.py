@@ -2,8 +2,8 @@
 """Writes the tables of damages that the tests of ntfs_check try, from the damages of tools/breaks.py: of each rule some that break it
 at different records, by few bytes, with the verdicts that were written by hand there.
 
-    check_table.py            prints the module
-    check_table.py --write    writes it to crates/ntfs_check/src/damages.rt
+    check_table.py            prints the modules
+    check_table.py --write    writes them to crates/ntfs_check/src/damages.rt and crates/ntfs_check/src/damages/
 """
 import collections
 import pathlib
@@ -20,11 +20,16 @@ EACH = 4
 PAIRS = 10
 NEAR = 10
 
+GROUPS = [("records", "records", ["C4", "C5", "C6"]), ("clusters", "clusters and their owners", ["C7", "C8", "C9"]),
+          ("files", "base references, lists and streams", ["C10", "C11", "C12"]), ("directories", "directories", ["C13", "C14"]),
+          ("fixed", "the records with fixed numbers", ["C15", "C16"])]
+
 HEAD = """\
 //! Damages of the made volume of seed 0 with 1,024 clusters of 4,096 bytes: which bytes stand at which places, and the
 //! rule that is broken then with the record that is named. `tools/check_table.py` writes them from `tools/breaks.py`,
 //! whose verdicts were written by hand.
 
+{modules}
 use ntfs_base::Rule;
 
 /// A place, and the bytes there.
@@ -32,12 +37,19 @@ pub(crate) type Patch = (usize, &'static [u8]);
 
 /// A damaged volume, and its verdict.
 #[derive(Clone, Copy)]
-pub(crate) struct Damage {
+pub(crate) struct Damage {{
     pub(crate) name: &'static str,
     pub(crate) patches: &'static [Patch],
     pub(crate) rule: Rule,
     pub(crate) number: u64,
-}
+}}
+"""
+
+PART = """\
+//! Damages of {subject}.
+
+use crate::damages::Damage;
+use ntfs_base::Rule;
 """
 
 
@@ -98,18 +110,33 @@ def pairs(found):
     return rows
 
 
-def module():
+def parts():
+    """The modules of the tables by their names, each with its text."""
     found = damages()
-    text = HEAD
-    for rule in (f"C{number}" for number in range(4, 17)):
-        rows = "".join(text_of(name, patches, rule, number) for number, (_, name, patches) in chosen(found, rule))
-        text += f"\n/// Volumes that break rule {rule} alone.\npub(crate) const {rule}: &[Damage] = &[\n{rows}];\n"
+    texts = {}
+    for name, subject, rules in GROUPS:
+        texts[name] = PART.format(subject=subject)
+        for rule in rules:
+            rows = "".join(text_of(name, patches, rule, number) for number, (_, name, patches) in chosen(found, rule))
+            texts[name] += f"\n/// Volumes that break rule {rule} alone.\npub(crate) const {rule}: &[Damage] = &[\n{rows}];\n"
     rows = "".join(text_of(name, patches, rule, number) for rule, number, (_, name, patches) in pairs(found))
-    return text + f"\n/// Volumes that break two rules: the first is named.\npub(crate) const PAIRS: &[Damage] = &[\n{rows}];\n"
+    texts["pairs"] = (PART.format(subject="two rules at once") + "\n/// Volumes that break two rules: the first is named.\n"
+                      f"pub(crate) const PAIRS: &[Damage] = &[\n{rows}];\n")
+    return texts
+
+
+def modules():
+    """The files of the tables by their paths below src/."""
+    texts = parts()
+    head = HEAD.format(modules="".join(f"pub(crate) mod {name};\n" for name in sorted(texts)))
+    return {"damages.rt": head} | {f"damages/{name}.rt": text for name, text in texts.items()}
 
 
 if __name__ == "__main__":
-    if sys.argv[1:] == ["--write"]:
-        (TOP / "crates" / "ntfs_check" / "src" / "damages.rt").write_text(module())
-    else:
-        print(module(), end="")
+    for path, text in modules().items():
+        if sys.argv[1:] == ["--write"]:
+            target = TOP / "crates" / "ntfs_check" / "src" / path
+            target.parent.mkdir(exist_ok=True)
+            target.write_text(text)
+        else:
+            print(text, end="")

@@ -1,1 +1,4 @@
 mod JudgedLemmas
+pub mod BootLemmas
+mod FindingsLemmas
+pub mod CheckedLemmas

@@ -2,9 +2,13 @@
 ghost use Rattle.std.specs.Prelude.{◌≡◌, ◌+◌, ◌*◌, [], IfOk, replicate};
 ghost use Rattle.ntfs_base.specs.Memory.{seen_of};
 
-use crate::damages::{
-    C4, C5, C6, C7, C8, C9, C10, C11, C12, C13, C14, C15, C16, Damage, PAIRS, Patch,
-};
+use crate::damages::clusters::{C7, C8, C9};
+use crate::damages::directories::{C13, C14};
+use crate::damages::files::{C10, C11, C12};
+use crate::damages::fixed::{C15, C16};
+use crate::damages::pairs::PAIRS;
+use crate::damages::records::{C4, C5, C6};
+use crate::damages::{Damage, Patch};
 use crate::judge;
 use ntfs_base::{Image, Leaves, MemImage};
 use ntfs_bitmap::ClusterSet;
@@ -32,7 +36,7 @@ fn blank(alloc: Global, clusters: u32, cluster: u32) -> Result<MemImage, AllocEr
 }
 
 /// A made volume.
-fn volume(
+pub(crate) fn volume(
     rt: &impl Abort,
     alloc: Global,
     seed: u64,
@@ -88,7 +92,7 @@ fn made_volumes_are_accepted(rt: HostRuntime) -> Result<(), Fail> {
 }
 
 /// Writes a text over the bytes, where it lies in them.
-fn patch(bytes: &mut [u8], place: usize, text: &[u8]) {
+pub(crate) fn patch(bytes: &mut [u8], place: usize, text: &[u8]) {
     if place <= bytes.len() && text.len() <= bytes.len() - place {
         bytes[place..place + text.len()].copy_from_slice(text);
     }

@@ -1,11 +1,10 @@
 -- The records that extend base records, taken one after the other.
-use Rattle.std.proofs.Common.{◌≡◌, ◌≤◌, ◌<◌, ◌+◌, ℕ, zero, suc, List, [], ◌∷◌, ◌++◌, Some, refl, sym, ap, subst, ◌∙◌, arith, append_assoc, append-nil}
+use Rattle.std.proofs.Common.{◌≡◌, ◌+◌, ℕ, zero, suc, List, [], ◌++◌, Some, refl, sym, ap, subst, ◌∙◌, arith, append_assoc, append-nil}
 use Rattle.ntfs_check_files.specs.Extending.{AreExtensions, HasTaken, extending, number_if, numbers_from}
 use Rattle.ntfs_check_files.specs.declared.extensions.Extensions.{Extensions}
-use Rattle.ntfs_record.specs.FileRecord.{Laid}
 use Rattle.ntfs_record.specs.Slots.{Slot}
 use Rattle.ntfs_survey.specs.Surveying.{record_at}
-use Rattle.ntfs_volume.specs.Located.{Located, located_slot}
+use Rattle.ntfs_volume.specs.Located.{located_slot}
 use Rattle.ntfs_volume.specs.Opened.{Opened}
 use Rattle.ntfs_volume.specs.Records.{raw_record}
 use Rattle.ntfs_volume.specs.Scan.{initialised_count}

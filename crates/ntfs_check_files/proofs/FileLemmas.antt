@@ -1,5 +1,5 @@
 -- Rule C11 of one record.
-use Rattle.std.proofs.Common.{◌≡◌, ◌≤◌, ◌<◌, ◌+◌, ◌==◌, ◌&&◌, ◌||◌, ◌++◌, inl, inr, ℕ, Bool, true, false, List, [], ◌∷◌, length, map, Option, Some, None, refl, sym, ap, subst, ◌∙◌, arith, if◌then◌else◌}
+use Rattle.std.proofs.Common.{◌≡◌, ◌<◌, ◌+◌, ◌==◌, ◌&&◌, ◌||◌, ◌++◌, inl, inr, ℕ, Bool, true, false, List, [], ◌∷◌, length, map, Option, Some, None, refl, sym, ap, ◌∙◌, arith, if◌then◌else◌}
 use Rattle.std.specs.Prelude.{not}
 use Rattle.std.proofs.lemmas.Bool.{cases_lt}
 use Rattle.std.proofs.lemmas.Bool.Decides.{nat_tests}
@@ -8,7 +8,7 @@ use Rattle.ntfs_check_files.proofs.ListedLemmas.{Known, base-by-number, file-ali
 use Rattle.ntfs_check_files.proofs.MemberLemmas.{own-said}
 use Rattle.ntfs_check_files.proofs.RecordLemmas.{each-passes, record-at, whole-at}
 use Rattle.ntfs_check_files.specs.Asked.{PresumesLists, records_of}
-use Rattle.ntfs_check_files.specs.Extending.{AreExtensions, extending, extends, numbers_from}
+use Rattle.ntfs_check_files.specs.Extending.{extending, numbers_from}
 use Rattle.ntfs_check_files.specs.Members.{matches_listing, members_in, members_said}
 use Rattle.ntfs_check_files.specs.declared.extensions.Extensions.{Extensions}
 use Rattle.ntfs_record.specs.Attribute.{attribute_of}
@@ -22,7 +22,7 @@ use Rattle.ntfs_survey.specs.Owned.{is_whole}
 use Rattle.ntfs_survey.specs.Surveying.{record_at}
 use Rattle.ntfs_volume.specs.Gathering.{file_lists}
 use Rattle.ntfs_volume.specs.Listing.{RecordListing, filled_attributes, listing_in}
-use Rattle.ntfs_volume.specs.Located.{Located, located_of, located_slot, slot_at, slots_from, slots_of, sound_located, unlocated}
+use Rattle.ntfs_volume.specs.Located.{Located, located_of, located_slot, slot_at, slots_of, sound_located, unlocated}
 use Rattle.ntfs_volume.specs.Opened.{Opened}
 use Rattle.ntfs_volume.specs.Records.{raw_record}
 use Rattle.ntfs_volume.specs.References.{has_base}

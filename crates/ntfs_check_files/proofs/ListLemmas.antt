@@ -1,5 +1,5 @@
 -- The attribute list of a base record.
-use Rattle.std.proofs.Common.{◌≡◌, ◌==◌, ◌&&◌, ◌||◌, ◌++◌, ℕ, Bool, true, false, List, [], ◌∷◌, length, map, Option, Some, None, Result, Ok, Err, refl, sym, ap, ◌∙◌, arith, if◌then◌else◌}
+use Rattle.std.proofs.Common.{◌≡◌, ◌==◌, ◌&&◌, ◌||◌, ◌++◌, ℕ, Bool, true, false, List, [], ◌∷◌, length, map, Option, Some, None, Result, Ok, Err, refl, sym, ap, ◌∙◌, arith}
 use Rattle.std.specs.Prelude.{is_ok, not}
 use Rattle.std.proofs.lemmas.Bool.Decides.{nat_tests}
 use Rattle.std.specs.Result.{result_map_both}
@@ -11,7 +11,7 @@ use Rattle.ntfs_check_files.specs.Members.{all_name, all_named, good_entries, ma
 use Rattle.ntfs_check_files.specs.declared.members.Attribute.{Attribute as Kept}
 use Rattle.ntfs_record.specs.FileRecord.{FileRecord, Laid}
 use Rattle.ntfs_record.specs.Slots.{Slot}
-use Rattle.ntfs_rules.specs.Files.{Member, are_listed}
+use Rattle.ntfs_rules.specs.Files.{are_listed}
 use Rattle.ntfs_volume.specs.Listing.{RecordListing, listing_of_bytes, listing_of_entries, no_listing}
 use Rattle.ntfs_volume.specs.Located.{Located}
 

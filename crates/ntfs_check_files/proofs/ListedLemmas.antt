@@ -1,28 +1,22 @@
 -- Rule C11: the attributes of a file against its list, whatever the order of the records.
-use Rattle.std.proofs.Common.{◌≡◌, ◌≤◌, ◌<◌, ◌+◌, ◌==◌, ◌&&◌, ◌||◌, inl, inr, ℕ, zero, suc, Bool, true, false, List, [], ◌∷◌, ◌++◌, length, map, nat_lt, Option, Some, None, refl, sym, ap, subst, ◌∙◌, arith, append_assoc, append-nil, length-append, if◌then◌else◌}
+use Rattle.std.proofs.Common.{◌≡◌, ◌≤◌, ◌<◌, ◌+◌, ◌==◌, ◌&&◌, ◌||◌, inl, inr, ℕ, zero, suc, Bool, true, false, List, [], ◌∷◌, ◌++◌, length, map, nat_lt, refl, sym, ap, subst, ◌∙◌, arith, append_assoc, append-nil, length-append, if◌then◌else◌}
 use Rattle.std.specs.Prelude.{filter, not}
-use Rattle.std.specs.List.{flat_map, list_all, list_any}
+use Rattle.std.specs.List.{list_all, list_any}
 use Rattle.std.proofs.lemmas.Grind.{flat_map-append}
-use Rattle.std.proofs.lemmas.Bool.{cases_eq, cases_lt}
+use Rattle.std.proofs.lemmas.Bool.{cases_eq}
 use Rattle.std.proofs.lemmas.Bool.Decides.{nat_tests}
 use Rattle.std.proofs.lemmas.List.Folds.{list_any-append}
 use Rattle.ntfs_attrlist.specs.Entry.{Listed}
-use Rattle.ntfs_check_files.proofs.RecordLemmas.{each-passes, record-at, whole-at}
-use Rattle.ntfs_check_files.specs.Asked.{records_of}
 use Rattle.ntfs_check_files.specs.Extending.{extends, number_if, numbers_from}
 use Rattle.ntfs_check_files.specs.Members.{all_name, all_named, members_in, members_read, told_member}
 use Rattle.ntfs_check_files.specs.Reading.{is_readable}
 use Rattle.ntfs_check_files.specs.declared.members.Attribute.{Attribute as Kept}
 use Rattle.ntfs_record.specs.FileRecord.{Laid}
 use Rattle.ntfs_record.specs.Slots.{Slot}
-use Rattle.ntfs_rules.specs.Files.{Member, are_listed, c10, count_of, is_base_for, is_no_base, is_same_member, member_at, members_at, members_from, names_base, names_member, without_list}
-use Rattle.ntfs_rules.specs.Records.{c4}
+use Rattle.ntfs_rules.specs.Files.{Member, are_listed, count_of, is_base_for, is_no_base, is_same_member, member_at, members_at, members_from, names_base, names_member, without_list}
 use Rattle.ntfs_survey.specs.Owned.{is_whole}
-use Rattle.ntfs_survey.specs.Surveying.{record_at}
-use Rattle.ntfs_volume.specs.Located.{Located, slot_at, slots_from, slots_of}
-use Rattle.ntfs_volume.specs.Opened.{Opened}
+use Rattle.ntfs_volume.specs.Located.{Located, slot_at, slots_from}
 use Rattle.ntfs_volume.specs.References.{has_base, matches, target, turn}
-use Rattle.ntfs_volume.specs.Scan.{initialised_count}
 
 -- ---- lists whose elements come in another order
 

@@ -1,12 +1,11 @@
 -- The attributes of a file as the code keeps them.
-use Rattle.std.proofs.Common.{◌≡◌, ◌<◌, ◌+◌, ◌==◌, ◌&&◌, ℕ, zero, suc, Bool, true, false, List, [], ◌∷◌, ◌++◌, length, map, drop, get_or, Option, Some, None, refl, sym, ap, subst, ◌∙◌, arith, append_assoc, append-nil, add-one, if◌then◌else◌}
+use Rattle.std.proofs.Common.{◌≡◌, ◌<◌, ◌+◌, ◌==◌, ◌&&◌, ℕ, Bool, true, false, List, [], ◌∷◌, ◌++◌, length, map, drop, get_or, Option, Some, None, refl, sym, ap, ◌∙◌, append_assoc, append-nil, add-one, if◌then◌else◌}
 use Rattle.std.proofs.Math.Seq.{drop-cons}
 use Rattle.std.proofs.lemmas.List.{map-append}
-use Rattle.std.specs.List.{flat_map}
 use Rattle.ntfs_check_files.specs.Members.{members_in, members_read, members_said, shown_but, shown_member, told_member}
 use Rattle.ntfs_check_files.specs.Reading.{IsView, is_readable}
 use Rattle.ntfs_check_files.specs.declared.members.Attribute.{Attribute as Kept}
-use Rattle.ntfs_record.specs.FileRecord.{Attribute, FileRecord, Laid}
+use Rattle.ntfs_record.specs.FileRecord.{FileRecord, Laid}
 use Rattle.ntfs_record.specs.Slots.{Slot}
 use Rattle.ntfs_record.specs.Views.{Placed, Shown, placed_of, shown_placed}
 use Rattle.ntfs_rules.specs.Files.{Member, member_at, without_list}

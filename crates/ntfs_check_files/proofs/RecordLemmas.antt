@@ -1,10 +1,9 @@
 -- Records with views of what they say.
-use Rattle.std.proofs.Common.{◌≡◌, ◌≤◌, ◌<◌, ◌+◌, ◌*◌, ◌/◌, ◌&&◌, ◌||◌, inl, inr, ℕ, zero, suc, Bool, true, false, List, [], ◌∷◌, length, map, Option, Some, None, Result, Ok, Err, refl, sym, ap, ◌∙◌, arith, subst, if◌then◌else◌}
+use Rattle.std.proofs.Common.{◌≡◌, ◌≤◌, ◌<◌, ◌+◌, ◌&&◌, ◌||◌, inl, inr, ℕ, zero, suc, Bool, true, false, List, [], ◌∷◌, length, Option, Some, None, Err, refl, sym, ap, ◌∙◌, arith, if◌then◌else◌}
 use Rattle.std.specs.Prelude.{not}
 use Rattle.ntfs_boot.specs.declared.geometry.Geometry.{Geometry}
 use Rattle.ntfs_check_files.specs.Reading.{is_readable}
 use Rattle.ntfs_record.specs.FileRecord.{FileRecord, Laid}
-use Rattle.ntfs_record.specs.Parsing.{parse_of}
 use Rattle.ntfs_record.specs.Slots.{Slot, begins_baad, first_not, is_in_use, map_laid, map_slot, map_slots, on_payload, record_in, tells_own}
 use Rattle.ntfs_rules.proofs.ListLemmas.{raw-past}
 use Rattle.ntfs_rules.specs.Records.{c4}
@@ -14,7 +13,7 @@ use Rattle.ntfs_volume.specs.Scan.{initialised_count}
 use Rattle.std.proofs.lemmas.Bool.{cases_lt}
 use Rattle.ntfs_runs.specs.Cells.{Cells, cells_below}
 use Rattle.ntfs_survey.specs.Owned.{is_whole}
-use Rattle.ntfs_volume.proofs.GatherLemmas.{IsFaulty, slot-faulty, slot-said}
+use Rattle.ntfs_volume.proofs.GatherLemmas.{IsFaulty, slot-faulty}
 use Rattle.ntfs_volume.specs.Located.{Located, idle, live_located, located_slot, map_located, slot_at, slots_from, slots_of, sound_located, unsound_located, with_cells}
 use Rattle.ntfs_volume.specs.MftMap.{Map}
 use Rattle.ntfs_volume.specs.Records.{read_of}

@@ -1,5 +1,5 @@
 -- The rules by what is asked of each record.
-use Rattle.std.proofs.Common.{◌≡◌, ◌==◌, ◌&&◌, ◌||◌, ◌++◌, ℕ, zero, suc, Bool, true, false, map, List, [], ◌∷◌, Option, Some, None, Result, Ok, Err, refl, sym, ap, subst, ◌∙◌, if◌then◌else◌}
+use Rattle.std.proofs.Common.{◌≡◌, ◌==◌, ◌&&◌, ◌||◌, ◌++◌, ℕ, suc, Bool, true, false, map, List, [], ◌∷◌, Option, None, Result, refl, sym, ap, subst, ◌∙◌, if◌then◌else◌}
 use Rattle.std.specs.Prelude.{not}
 use Rattle.std.specs.Borrow.{Bor}
 use Rattle.std.specs.List.{list_any}
@@ -12,14 +12,13 @@ use Rattle.ntfs_volume.specs.References.{has_base}
 use Rattle.ntfs_volume.specs.Streams.{lists_of}
 use Rattle.ntfs_base.specs.Bytes.{fill_cluster}
 use Rattle.ntfs_base.specs.Frames.{Gives}
-use Rattle.ntfs_base.specs.declared.refusal.Rule.{Rule}
 use Rattle.ntfs_base.specs.declared.refusal.Rule.TheVariants as rule
 use Rattle.ntfs_check_files.proofs.RecordLemmas.{slot-mapped}
 use Rattle.ntfs_check_files.specs.Asked.{Presumes, answer_of, first_refused, records_of}
 use Rattle.ntfs_check_files.specs.declared.asked.Asked.{Asked}
 use Rattle.ntfs_check_files.specs.declared.asked.Asked.TheVariants as asked
 use Rattle.ntfs_record.proofs.SlotLemmas.{first_not-map}
-use Rattle.ntfs_record.specs.FileRecord.{Attribute, Head, Laid}
+use Rattle.ntfs_record.specs.FileRecord.{Attribute, Head}
 use Rattle.ntfs_record.specs.Slots.{Slot, map_laid, map_slot, map_slots, on_payload}
 use Rattle.ntfs_rules.proofs.DataLemmas.{c4-is, listings-are}
 use Rattle.ntfs_rules.specs.Files.{Member, are_listed, c10, c11, is_base_for, is_listed, is_no_base, member_at, members_at, members_from, names_base, without_list}
@@ -29,7 +28,7 @@ use Rattle.ntfs_rules.specs.VolumeData.{listings, volume_data}
 use Rattle.ntfs_rules.specs.declared.fault.CheckFault.{CheckFault}
 use Rattle.ntfs_runs.specs.Cells.{cells_below}
 use Rattle.ntfs_volume.specs.Laws.{in_located}
-use Rattle.ntfs_volume.specs.Located.{Located, map_located, slot_at, slots_of, with_cells}
+use Rattle.ntfs_volume.specs.Located.{map_located, slot_at, slots_of, with_cells}
 use Rattle.ntfs_volume.specs.Opened.{Opened}
 use Rattle.ntfs_volume.specs.References.{target}
 

@@ -1,5 +1,5 @@
 -- The first record of which what is asked doesn't hold.
-use Rattle.std.proofs.Common.{◌≡◌, ◌≤◌, ◌<◌, ◌+◌, ◌-◌, ◌*◌, ◌/◌, ◌^◌, inl, inr, ℕ, zero, suc, Bool, true, false, List, Option, Some, None, Result, Ok, Err, min, take, drop, refl, sym, ap, ◌∙◌, subst, arith, length, if◌then◌else◌}
+use Rattle.std.proofs.Common.{◌≡◌, ◌≤◌, ◌<◌, ◌+◌, ◌-◌, ◌*◌, ◌/◌, ◌^◌, inl, inr, ℕ, zero, suc, Bool, true, false, List, Option, Some, None, Result, min, take, drop, refl, sym, ap, ◌∙◌, subst, arith, length, if◌then◌else◌}
 use Rattle.std.proofs.lemmas.Nat.{le-div}
 use Rattle.std.specs.Prelude.{is_some}
 use Rattle.std.proofs.lemmas.Bool.{cases_eq, cases_lt}
@@ -10,7 +10,7 @@ use Rattle.ntfs_check_files.specs.declared.asked.Asked.{Asked}
 use Rattle.ntfs_record.specs.Slots.{Slot, first_not}
 use Rattle.ntfs_rules.specs.declared.fault.CheckFault.{CheckFault}
 use Rattle.ntfs_survey.specs.Surveying.{record_at}
-use Rattle.ntfs_volume.specs.Located.{located_slot, slots_from, slots_of}
+use Rattle.ntfs_volume.specs.Located.{slots_from, slots_of}
 use Rattle.ntfs_volume.specs.Opened.{Opened}
 use Rattle.ntfs_volume.specs.Records.{raw_record}
 use Rattle.ntfs_volume.specs.Scan.{HoldRecords, Scanning, initialised_count, taken_count}

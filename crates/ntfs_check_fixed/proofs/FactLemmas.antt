@@ -1,17 +1,18 @@
 -- What an accepted volume is asked for later.
-use Rattle.std.proofs.Common.{◌≡◌, ◌≤◌, ◌<◌, ◌+◌, ◌-◌, ◌*◌, ◌%◌, ◌^◌, ◌==◌, ◌&&◌, ◌||◌, ◌∙◌, inl, inr, ap, sym, refl, subst, arith, ℕ, zero, suc, Bool, true, false, List, [], ◌∷◌, ◌++◌, length, drop, min, max, get_or, length-append, nat_le, nat_lt, Option, Some, None, Result, Ok, Err, if◌then◌else◌}
+use Rattle.std.proofs.Common.{◌≡◌, ◌≤◌, ◌<◌, ◌+◌, ◌-◌, ◌%◌, ◌^◌, ◌==◌, ◌&&◌, ◌||◌, ◌∙◌, inl, inr, ap, sym, refl, subst, arith, ℕ, zero, suc, Bool, true, false, List, [], ◌∷◌, ◌++◌, length, drop, min, max, get_or, length-append, nat_le, nat_lt, Option, Some, None, Result, Ok, Err, if◌then◌else◌}
 use Rattle.std.proofs.lemmas.Bool.{cases_lt}
 use Rattle.std.proofs.lemmas.Bool.Decides.{nat_tests}
 use Rattle.std.proofs.lemmas.List.{at_drop_all, at_drop_more, get_or_past}
+use Rattle.std.proofs.lemmas.List.Elements.{recursion_from_All}
 use Rattle.std.specs.Prelude.{All, IfSome, map, not, slice_index}
 use Rattle.std.specs.List.{AllByRecursion, flat_map}
 use Rattle.ntfs_base.specs.Bytes.{Cluster, number_at}
-use Rattle.ntfs_base.specs.Checks.{Check, check, first_wrong}
+use Rattle.ntfs_base.specs.Checks.{Check, first_wrong}
 use Rattle.ntfs_bitmap.proofs.LawLemmas.{has-empty}
 use Rattle.ntfs_bitmap.proofs.RunsLemmas.{true_or_false}
 use Rattle.ntfs_bitmap.proofs.SetLemmas.{bound-set_where, set_where-has, set_where-same}
 use Rattle.ntfs_bitmap.specs.ClusterSet.{Clusters, IsFree, bound_of, empty_set, has, in_run, set_where}
-use Rattle.ntfs_bitmap.specs.Search.{FindsLeast, IsLeast}
+use Rattle.ntfs_bitmap.specs.Search.{IsLeast}
 use Rattle.ntfs_check_fixed.proofs.PlaceLemmas.{all-clusters, run-cells, run-clusters}
 use Rattle.ntfs_check_fixed.proofs.FixedLemmas.{all_rows, fixed-is, is-plain}
 use Rattle.ntfs_check_fixed.specs.Facts.{Adds, HasNoValue, VolumeFacts, cells_found, cells_in, end_of, facts_of, fixed_in, is_among, is_dirty, value_found, value_in}
@@ -21,9 +22,9 @@ use Rattle.ntfs_rules.proofs.DataLemmas.{stream-is}
 use Rattle.ntfs_rules.specs.Accepts.{claims_in}
 use Rattle.ntfs_rules.specs.FixedRecords.{are_in_place, bad_name, c15, row_8, volume_information_kind}
 use Rattle.ntfs_rules.specs.VolumeData.{listings, numbers, stream_in, volume_data}
-use Rattle.ntfs_runs.proofs.CellsLemmas.{are_cells-some, length-row, no_run, vcns-all}
+use Rattle.ntfs_runs.proofs.CellsLemmas.{are_cells-some, no_run, vcns-all}
 use Rattle.ntfs_runs.specs.Cells.{are_cells, is_cell}
-use Rattle.ntfs_runs.specs.Clusters.{behind, row, vcns}
+use Rattle.ntfs_runs.specs.Clusters.{row, vcns}
 use Rattle.ntfs_runs.specs.declared.run.Run.{Run}
 use Rattle.ntfs_stream.proofs.BoolLemmas.{and-left, and-right}
 use Rattle.ntfs_survey.specs.Owned.{Claim, LiesBelow, cell_claims, owner_claims}
@@ -309,6 +310,21 @@ last-end r owners i all end le same =
     let none = at_drop_all (λ os. end_of r (flat_map owner_claims os)) owners i le in
     omega (arith, none, same)
 
+-- a record reaches no further than its owners
+owner-within : (r n : ℕ) (o : Owner) (b : Bool) → (o.number == r) ≡ b → LiesBelow n o → end_of r (owner_claims o) ≤ n
+owner-within r n o true own lies = let end = end-row r o.number o.place o.vcn o.length o.first own lies.some in omega (arith, end, lies.within)
+owner-within r n o false other lies = let none = end-other r o.number o.place o.vcn o.length o.first other in omega (arith, none)
+
+owners-within : (r n : ℕ) (owners : List Owner) → AllByRecursion (LiesBelow n) owners → end_of r (flat_map owner_claims owners) ≤ n
+unfolding end_of
+owners-within r n [] lies = omega arith
+owners-within r n (o ∷ owners) lies =
+    let parts = end-append r (owner_claims o) (flat_map owner_claims owners) in
+    omega (arith, parts, owner-within r n o (o.number == r) refl lies.0, owners-within r n owners lies.1)
+
+pub end-within : (r n : ℕ) (owners : List Owner) → All (LiesBelow n) owners → end_of r (flat_map owner_claims owners) ≤ n
+end-within r n owners lies = owners-within r n owners (recursion_from_All (LiesBelow n) owners lies)
+
 -- ---- the dirty flag
 
 low-bit : (value : List ℕ) → number_at 2 0x0A value % 2 ≡ slice_index value 0x0A % 2
@@ -323,6 +339,9 @@ pub dirty-short : (value : List ℕ) → length value < 11 → false ≡ is_dirt
 dirty-short value short = ap (λ n. n % 2 == 1) (sym (get_or_past value 0x0A 0 (omega (arith, short)))) ∙ dirty-is value
 
 -- ---- the clusters of two streams
+
+pub fixed-bound : (n : ℕ) (bitmap bad : List (Option ℕ)) → bound_of (fixed_in n bitmap bad) ≡ n
+fixed-bound n bitmap bad = bound-set_where n (λ k. is_among bitmap k || is_among bad k)
 
 pub fixed-set : (n : ℕ) (none one both : Clusters) (bitmap bad : List (Option ℕ)) → none ≡ empty_set n → Adds none one (is_among bitmap) → Adds one both (is_among bad) → both ≡ fixed_in n bitmap bad
 fixed-set n none one both bitmap bad empty first second =

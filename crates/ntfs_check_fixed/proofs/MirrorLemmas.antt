@@ -1,5 +1,5 @@
 -- Records and their copies in the mirror.
-use Rattle.std.proofs.Common.{◌≡◌, ◌≤◌, ◌<◌, ◌+◌, ◌-◌, ◌*◌, ◌/◌, ◌==◌, ◌&&◌, ◌||◌, ◌∙◌, inl, inr, ap, sym, refl, subst, arith, ℕ, zero, suc, Bool, true, false, List, [], ◌∷◌, ◌++◌, length, take, drop, min, map, get_or, nat_le, nat_lt, Option, Some, None, Result, Ok, Err, if◌then◌else◌}
+use Rattle.std.proofs.Common.{◌≡◌, ◌≤◌, ◌<◌, ◌+◌, ◌-◌, ◌*◌, ◌/◌, ◌==◌, ◌&&◌, ◌||◌, ◌∙◌, inl, inr, ap, sym, refl, subst, arith, ℕ, zero, suc, Bool, true, false, List, [], ◌∷◌, ◌++◌, length, take, drop, min, map, nat_le, nat_lt, Option, Some, None, Result, Ok, Err, if◌then◌else◌}
 use Rattle.std.proofs.lemmas.Bool.{and_from, cases_lt}
 use Rattle.std.proofs.lemmas.Bool.Decides.{nat_tests}
 use Rattle.std.proofs.lemmas.List.{get_or_past, length-take}
@@ -7,8 +7,8 @@ use Rattle.std.proofs.Math.Nat.{div-lt_iff_lt-mul}
 use Rattle.std.specs.Prelude.{slice_index}
 use Rattle.std.specs.Result.{result_map_both}
 use Rattle.ntfs_base.proofs.BytesLemmas.{take-drop-take}
-use Rattle.ntfs_base.specs.Bytes.{Cluster, cluster_at, fill_cluster, join_clusters, raw_of, stream}
-use Rattle.ntfs_base.specs.Checks.{Check, check, first_wrong}
+use Rattle.ntfs_base.specs.Bytes.{cluster_at, fill_cluster, join_clusters, raw_of, stream}
+use Rattle.ntfs_base.specs.Checks.{check, first_wrong}
 use Rattle.ntfs_base.specs.Frames.{Gives}
 use Rattle.ntfs_base.specs.declared.refusal.Rule.TheVariants as rule
 use Rattle.ntfs_boot.specs.declared.geometry.Geometry.{Geometry}

@@ -1,6 +1,6 @@
 -- The comparison of rule C16, as the code makes it. The words are ours.
-use Rattle.std.specs.Prelude.{◌==◌, ◌||◌, ◌&&◌, ℕ, Bool, List, [], ◌∷◌, map, nat_lt, slice_index, Option}
-use Rattle.ntfs_base.specs.Checks.{Check, check, first_wrong}
+use Rattle.std.specs.Prelude.{◌==◌, ◌||◌, ◌&&◌, ℕ, Bool, List, nat_lt, slice_index}
+use Rattle.ntfs_base.specs.Checks.{Check, check}
 use Rattle.ntfs_rules.specs.FixedRecords.{has_copy, is_in_array, unfixed_in}
 
 -- a byte is the same in both records, or lies in the fixup array of the first

@@ -1,7 +1,7 @@
 -- What an accepted volume is asked for later: how far record 7 reaches, which clusters can't be moved, how many are
 -- bad, and whether the volume is dirty (the Linux-NTFS documentation, "$Boot", "$Bitmap", "$BadClus" and "$Volume";
 -- the words are ours).
-use Rattle.std.specs.Prelude.{◌≡◌, ◌+◌, ◌%◌, ◌==◌, ◌||◌, ℕ, Bool, true, false, List, [], ◌∷◌, length, max, Option, Some, None, Result, Ok, Err, if◌then◌else◌}
+use Rattle.std.specs.Prelude.{◌≡◌, ◌+◌, ◌%◌, ◌==◌, ◌||◌, ℕ, Bool, false, List, [], ◌∷◌, length, max, Option, Some, None, Result, Ok, Err, if◌then◌else◌}
 use Rattle.ntfs_base.specs.Bytes.{number_at}
 use Rattle.ntfs_bitmap.specs.ClusterSet.{Clusters, bound_of, has, set_where}
 use Rattle.ntfs_directory.specs.UpCase.{data_kind}

@@ -249,6 +249,9 @@ pub fn read_facts<G: Image>(
         c15 v.geometry (map (λ (k : Cluster). k.number) v.table) (listings v) (numbers v) ≡ None
         → claims_in v ≡ flat_map owner_claims owners.now → All (LiesBelow v.geometry.clusters) owners.now
         → IfOk result (λ facts. facts ≡ facts_of v)) }
+    ensures bound { IfOk result (λ facts. bound_of facts.fixed ≡ table.now.geometry.clusters) }
+    ensures ended { All (LiesBelow table.now.geometry.clusters) owners.now
+        → IfOk result (λ facts. facts.boot_end ≤ table.now.geometry.clusters) }
     ensures cut { IfErr result (λ fault. IsSettled (check_origin fault) → ⊥) }
     ensures reads { OnlyReads G.Image check_origin image.old image.new result }
 {

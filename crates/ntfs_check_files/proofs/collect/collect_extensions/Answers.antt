@@ -1,4 +1,4 @@
-use Rattle.std.proofs.Common.{◌≡◌, ◌<◌, ◌-◌, ◌+◌, ◌∙◌, ap, sym, arith, length, refl, subst}
+use Rattle.std.proofs.Common.{◌≡◌, ◌<◌, ◌-◌, ◌∙◌, ap, arith, length, refl}
 use Rattle.ntfs_base.proofs.FramesLemmas.{told_still}
 use Rattle.ntfs_base.specs.Bytes.{cluster_at}
 use Rattle.ntfs_boot.specs.declared.geometry.Geometry.{Geometry}

@@ -1,4 +1,3 @@
-use Rattle.std.proofs.Common.{Result}
 use Rattle.ntfs_base.proofs.FramesLemmas.{told_still}
 use Rattle.ntfs_base.specs.Bytes.{cluster_at}
 use Rattle.ntfs_base.specs.Frames.{Gives}

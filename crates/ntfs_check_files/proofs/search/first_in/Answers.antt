@@ -1,11 +1,10 @@
-use Rattle.std.proofs.Common.{◌≡◌, ◌+◌, ◌∙◌, arith, sym, length, Some}
+use Rattle.std.proofs.Common.{◌≡◌, ◌+◌, ◌∙◌, arith, length, Some}
 use Rattle.ntfs_base.proofs.FramesLemmas.{told_still}
 use Rattle.ntfs_base.specs.Bytes.{cluster_at}
 use Rattle.ntfs_base.specs.Frames.{IsSettled}
 use Rattle.ntfs_check_files.proofs.SearchLemmas.{copied-is, found-at, passed-at}
 use Rattle.ntfs_check_files.proofs.search.first_in.Goals as goal
 use Rattle.ntfs_check_files.specs.Asked.{Presumes, asked_at}
-use Rattle.ntfs_check_files.specs.Reading.{Answers}
 use Rattle.ntfs_rules.specs.Outcome.{check_origin}
 use Rattle.ntfs_volume.specs.Records.{raw_record}
 

@@ -1,8 +1,9 @@
-use Rattle.std.proofs.Common.{◌≡◌, ◌<◌, ◌^◌, ◌∙◌, ap, sym, subst, arith, length, ℕ, List, [], Option}
+use Rattle.std.proofs.Common.{◌≡◌, ◌<◌, ◌^◌, ◌∙◌, ap, sym, arith, length, ℕ, List, [], Option}
 use Rattle.ntfs_base.proofs.FramesLemmas.{told_still}
 use Rattle.ntfs_base.specs.Bytes.{cluster_at}
+use Rattle.ntfs_bitmap.specs.ClusterSet.{bound_of}
 use Rattle.ntfs_boot.specs.declared.geometry.Geometry.{Geometry}
-use Rattle.ntfs_check_fixed.proofs.FactLemmas.{bad-in-place, facts-are, found-plain}
+use Rattle.ntfs_check_fixed.proofs.FactLemmas.{bad-in-place, end-within, facts-are, fixed-bound, found-plain}
 use Rattle.ntfs_check_fixed.proofs.known.read_facts.Goals as goal
 use Rattle.ntfs_check_fixed.specs.Facts.{cells_in, end_of, fixed_in}
 use Rattle.ntfs_check_fixed.specs.Rows.{found_by}
@@ -41,3 +42,16 @@ returns-clause-found g c told = λ sound claims lies.
     (c.count_clusters-bad_count.ensures c.geometry-geometry.result.now.clusters (omega (arith, many, few)) c.runs_found-bad_runs.ensures.below (ap (are_in_place 0) bad_cells ∙ bad-in-place o f bad bad_is sound)
     ∙ ap (λ (cells : List (Option ℕ)). length (clusters_in cells)) bad_cells)
     (c.is_flagged.ensures (found-plain o f 3 volume_information_kind [] information information_is).1)
+
+pub returns-clause-bound : goal.returns-clause-bound
+returns-clause-bound g c =
+    ap bound_of c.in_ok-fixed.ensures ∙ fixed-bound c.geometry-geometry.result.now.clusters (vcns c.runs_found.result.now) (vcns c.runs_found-bad_runs.result.now)
+    ∙ ap (λ (k : Geometry). k.clusters) c.geometry-geometry.ensures.kept
+
+pub returns-clause-ended : goal.returns-clause-ended
+returns-clause-ended g c = λ lies.
+    let o = c.args.table.now in
+    let kept = ap (λ (k : Geometry). k.clusters) c.geometry-geometry.ensures.kept in
+    let few : o.geometry.clusters < 2 ^ 63 = omega (arith, c.geometry-geometry.ensures.good.most_clusters, kept) in
+    let end = c.end_of.ensures o.geometry.clusters few lies in
+    omega (arith, end, end-within 7 o.geometry.clusters c.args.owners.now lies)

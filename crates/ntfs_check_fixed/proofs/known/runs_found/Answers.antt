@@ -1,4 +1,4 @@
-use Rattle.std.proofs.Common.{◌≡◌, ◌∙◌, ap, sym, subst, Option}
+use Rattle.std.proofs.Common.{◌∙◌, ap, sym, subst, Option}
 use Rattle.std.specs.Prelude.{IfSome, ℕ}
 use Rattle.ntfs_check_fixed.proofs.RowLemmas.{no-runs, no-runs-below}
 use Rattle.ntfs_check_fixed.proofs.known.runs_found.Goals as goal
