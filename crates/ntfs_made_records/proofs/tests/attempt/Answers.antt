@@ -1,0 +1,5 @@
+use Rattle.std.proofs.Common.{rules}
+use Rattle.ntfs_made_records.proofs.tests.attempt.Goals as goal
+
+pub make-requires-clause-range : goal.make-requires-clause-range
+make-requires-clause-range g c = c.is_in_range.ensures.yes (search rules) c.args.plan.now.seed
