@@ -1,8 +1,8 @@
 -- A raw copy is what the clone image restores, and what stands of it after a fault is a front of it.
-use Rattle.std.proofs.Common.{◌≡◌, ◌≤◌, ◌<◌, ◌+◌, ◌-◌, ◌*◌, ◌⊎◌, inl, inr, ℕ, zero, suc, Bool, true, false, List, [], ◌∷◌, ◌++◌, length, take, replicate, get_or, slice_index, refl, sym, ap, ◌∙◌, subst, arith, nat_eq, append_assoc, length-append, if◌then◌else◌}
+use Rattle.std.proofs.Common.{◌≡◌, ◌+◌, ◌-◌, ◌*◌, ◌⊎◌, inl, inr, ℕ, zero, suc, Bool, true, false, List, [], ◌∷◌, ◌++◌, length, take, replicate, get_or, slice_index, refl, sym, ap, ◌∙◌, arith, nat_eq, append_assoc, if◌then◌else◌}
 use Rattle.std.proofs.lemmas.Bool.{cases_lt}
 use Rattle.std.proofs.lemmas.Bool.Decides.{eqb_tells}
-use Rattle.std.proofs.lemmas.List.{append-nil, length-replicate, replicate-append-replicate, places}
+use Rattle.std.proofs.lemmas.List.{append-nil, replicate-append-replicate, places}
 use Rattle.ntfs_base.specs.Bytes.{cluster_at}
 use Rattle.ntfs_base.specs.Growth.{resize_of}
 use Rattle.ntfs_clone.specs.CloneOf.{Volume, cluster_commands, saved_commands, saved_header, tail_of, widened}

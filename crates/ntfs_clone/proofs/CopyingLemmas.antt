@@ -1,5 +1,5 @@
 -- What stands on the target of a raw copy, cluster by cluster.
-use Rattle.std.proofs.Common.{◌≡◌, ◌≤◌, ◌<◌, ◌+◌, ◌-◌, ◌*◌, ◌⊎◌, inl, inr, ℕ, zero, suc, Bool, true, false, List, [], ◌∷◌, ◌++◌, length, take, drop, replicate, refl, sym, ap, ◌∙◌, subst, arith, append_assoc, length-append, if◌then◌else◌, Result, Ok, Err, IsTrue}
+use Rattle.std.proofs.Common.{◌≡◌, ◌≤◌, ◌<◌, ◌+◌, ◌-◌, ◌*◌, ◌⊎◌, inl, inr, ℕ, zero, suc, Bool, true, false, List, [], ◌∷◌, ◌++◌, length, take, drop, replicate, refl, sym, ap, ◌∙◌, arith, append_assoc, length-append, Result, Ok, Err, IsTrue}
 use Rattle.std.proofs.Math.Seq.{take-add}
 use Rattle.std.proofs.lemmas.List.{append-nil, drop-drop, length-replicate, replicate-append-replicate}
 use Rattle.ntfs_base.specs.Bytes.{cluster_at, overwrite}
@@ -16,10 +16,10 @@ use Rattle.ntfs_clone.proofs.WritingLemmas.{makes-wrote, told-length}
 
 -- ---- clusters in a row
 
-one-owned : (v : Volume) (k : ℕ) → v.owned k ≡ true → copied_cluster v k ≡ cluster_at v.image v.cluster k
+pub one-owned : (v : Volume) (k : ℕ) → v.owned k ≡ true → copied_cluster v k ≡ cluster_at v.image v.cluster k
 one-owned v k is = rw is refl
 
-one-free : (v : Volume) (k : ℕ) → v.owned k ≡ false → copied_cluster v k ≡ replicate v.cluster 0
+pub one-free : (v : Volume) (k : ℕ) → v.owned k ≡ false → copied_cluster v k ≡ replicate v.cluster 0
 one-free v k is = rw is refl
 
 -- owned clusters have their bytes
@@ -58,10 +58,10 @@ copied-free v from (suc n) free =
     ∙ ap (λ xs. copied_clusters v from ++ xs)
     (ap (λ xs. replicate (n * c) 0 ++ xs) (one-free v (from + n) (free (from + n) (omega arith) (omega arith))) ∙ replicate-append-replicate (n * c) c 0 ∙ ap (λ m. replicate m 0) more)
 
-part-below : (m n c : ℕ) → m < n → m * c + c ≤ n * c
+pub part-below : (m n c : ℕ) → m < n → m * c + c ≤ n * c
 part-below m n c below = grind arith
 
-one-long : (v : Volume) (k : ℕ) (b : Bool) → v.owned k ≡ b → k * v.cluster + v.cluster ≤ length v.image → length (copied_cluster v k) ≡ v.cluster
+pub one-long : (v : Volume) (k : ℕ) (b : Bool) → v.owned k ≡ b → k * v.cluster + v.cluster ≤ length v.image → length (copied_cluster v k) ≡ v.cluster
 one-long v k true is within = ap length (one-owned v k is) ∙ length-cluster_at v.image v.cluster k within
 one-long v k false is within = ap length (one-free v k is) ∙ length-replicate v.cluster 0
 

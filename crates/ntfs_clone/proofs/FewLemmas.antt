@@ -1,6 +1,6 @@
 -- How many commands a clone image has.
-use Rattle.std.proofs.Common.{◌≡◌, ◌≤◌, ◌<◌, ◌+◌, ◌-◌, ◌*◌, inl, inr, ℕ, zero, suc, Bool, true, false, not, ◌&&◌, List, [], ◌∷◌, length, drop, refl, sym, ap, ◌∙◌, subst, arith, nat_le, nat_lt, nat_eq, if◌then◌else◌, Option, Some, None, Ok, Err}
-use Rattle.std.proofs.lemmas.Bool.{eqb-true, leb-true, ltb-true}
+use Rattle.std.proofs.Common.{◌≡◌, ◌≤◌, ◌<◌, ◌+◌, ◌-◌, ◌*◌, ℕ, zero, suc, Bool, true, false, not, ◌&&◌, List, length, drop, refl, sym, ap, ◌∙◌, subst, arith, nat_le, nat_lt, nat_eq, if◌then◌else◌, Option, Some, None, Ok}
+use Rattle.std.proofs.lemmas.Bool.{eqb-true, ltb-true}
 use Rattle.ntfs_base.specs.Frames.{must, ◌>>=◌}
 use Rattle.ntfs_clone.specs.declared.fault.CloneFault.TheVariants.{BadClone}
 use Rattle.ntfs_clone.specs.declared.header.CloneHeader.{CloneHeader}

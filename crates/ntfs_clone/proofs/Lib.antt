@@ -12,3 +12,5 @@ pub mod CopyLawLemmas
 pub mod ReadBackLemmas
 pub mod FewLemmas
 pub mod OpenedLemmas
+pub mod PlaceLemmas
+pub mod SameLemmas

@@ -1,13 +1,13 @@
 -- The volume of an opened image can be saved.
-use Rattle.std.proofs.Common.{◌≡◌, ◌≤◌, ◌<◌, ◌+◌, ◌*◌, ◌^◌, ◌⊎◌, inl, inr, ℕ, Bool, true, false, ◌||◌, List, length, refl, sym, subst, arith, nat_eq}
+use Rattle.std.proofs.Common.{◌≡◌, ◌≤◌, ◌<◌, ◌*◌, ◌^◌, ◌⊎◌, inl, inr, ℕ, Bool, true, false, ◌||◌, List, length, refl, sym, subst, arith, nat_eq}
 use Rattle.std.proofs.Math.Nat.{mul-le-mul_left}
 use Rattle.std.proofs.lemmas.Bool.{eqb-true}
 use Rattle.ntfs_bitmap.specs.ClusterSet.{Clusters}
 use Rattle.ntfs_boot.specs.declared.geometry.Geometry.{Geometry}
-use Rattle.ntfs_boot.specs.Geometry.{IsOpened, is_sector_count, is_sector_size}
+use Rattle.ntfs_boot.specs.Geometry.{IsOpened, bytes_of_clusters, is_sector_count, is_sector_size}
 use Rattle.ntfs_clone.specs.CloneOf.{IsVolume, volume_of}
 use Rattle.ntfs_clone.specs.Header.{is_clone_cluster}
-use Rattle.ntfs_clone.proofs.VolumeLemmas.{device-least, device-most}
+use Rattle.ntfs_clone.proofs.VolumeLemmas.{IsSized, good-sized, sized-least, sized-most}
 
 either-of : (a b : Bool) → (a || b) ≡ true → (a ≡ true) ⊎ (b ≡ true)
 either-of true b is = inl refl
@@ -68,17 +68,19 @@ cluster-size s n size count =
 small : (n c : ℕ) → n < 2 ^ 32 → c ≤ 65536 → n * c ≤ 281474976710656
 small n c few most = let all : c * n ≤ c * 4294967296 = mul-le-mul_left c (omega (arith, few)) in omega (arith, all, most)
 
-pub opened-volume : (g : Geometry) (owned : Clusters) (image : List ℕ) → IsOpened (length image) g → IsVolume (volume_of g owned image)
-opened-volume g owned image opened =
-    let good = opened.good in
-    let bytes = small g.clusters g.cluster good.most_clusters good.most_cluster in
-    let most = device-most g good in
+pub sized-volume : (g : Geometry) (owned : Clusters) (image : List ℕ) → IsSized g → bytes_of_clusters g ≤ length image → IsVolume (volume_of g owned image)
+sized-volume g owned image sized held =
+    let bytes = small g.clusters g.cluster sized.most_clusters sized.cluster.most in
+    let most = sized-most g sized in
     record {
-      cluster = subst (λ (n : ℕ). is_clone_cluster n ≡ true) (sym good.cluster.product)
-          (cluster-size g.sector good.sectors_per_cluster good.cluster.sector_size good.cluster.sector_count (subst (λ (n : ℕ). n ≤ 65536) good.cluster.product good.cluster.most));
-      device = omega (arith, most, bytes, good.most_cluster);
-      held = device-least g good;
-      some_clusters = good.some_clusters;
-      most_clusters = good.most_clusters;
-      bytes = opened.held;
+      cluster = subst (λ (n : ℕ). is_clone_cluster n ≡ true) (sym sized.cluster.product)
+          (cluster-size g.sector sized.sectors_per_cluster sized.cluster.sector_size sized.cluster.sector_count (subst (λ (n : ℕ). n ≤ 65536) sized.cluster.product sized.cluster.most));
+      device = omega (arith, most, bytes, sized.cluster.most);
+      held = sized-least g sized;
+      some_clusters = sized.some_clusters;
+      most_clusters = sized.most_clusters;
+      bytes = held;
     }
+
+pub opened-volume : (g : Geometry) (owned : Clusters) (image : List ℕ) → IsOpened (length image) g → IsVolume (volume_of g owned image)
+opened-volume g owned image opened = sized-volume g owned image (good-sized g opened.good) opened.held

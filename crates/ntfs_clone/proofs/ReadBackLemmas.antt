@@ -1,21 +1,19 @@
 -- What a save wrote is read: its header, and its commands in their order.
-use Rattle.std.proofs.Common.{◌≡◌, ◌≤◌, ◌<◌, ◌+◌, ◌-◌, ◌*◌, ◌^◌, inl, inr, ℕ, zero, suc, Bool, true, false, not, ◌&&◌, ◌||◌, List, [], ◌∷◌, ◌++◌, length, take, drop, replicate, refl, sym, ap, ◌∙◌, subst, arith, nat_le, nat_lt, nat_eq, if◌then◌else◌, Result, Ok, Err, length-append, append_assoc}
+use Rattle.std.proofs.Common.{◌≡◌, ◌≤◌, ◌<◌, ◌+◌, ◌-◌, ◌*◌, ◌^◌, inl, inr, ℕ, zero, suc, Bool, true, false, not, ◌&&◌, ◌||◌, List, [], ◌∷◌, ◌++◌, length, take, drop, replicate, refl, sym, ap, ◌∙◌, subst, arith, nat_le, nat_lt, nat_eq, if◌then◌else◌, Ok, length-append, append_assoc}
 use Rattle.std.proofs.lemmas.Bool.{le-leb, leb-true, lt-ltb}
 use Rattle.std.proofs.lemmas.Bool.Decides.{eqb_tells, nat_tests}
 use Rattle.std.proofs.lemmas.List.{append-nil}
-use Rattle.std.proofs.Math.Seq.{drop-append_seam, take-append_seam}
+use Rattle.std.proofs.Math.Seq.{drop-append_seam}
 use Rattle.std.specs.Str.{bytes_eq}
 use Rattle.byteorder.specs.Endian.{little_bytes}
 use Rattle.byteorder.specs.Numbers.{length-bytes_low_first}
 use Rattle.ntfs_base.specs.Bytes.{cluster_at, number_at, piece_at}
-use Rattle.ntfs_base.specs.Frames.{must, ◌>>=◌}
 use Rattle.ntfs_base.specs.Growth.{resize_of}
-use Rattle.ntfs_base.proofs.BytesLemmas.{length-cluster_at, number_at-bytes, number_at-take, take-drop-append, take-take}
+use Rattle.ntfs_base.proofs.BytesLemmas.{length-cluster_at, number_at-bytes, number_at-take}
 use Rattle.ntfs_base.proofs.GrowthLemmas.{length-resized}
-use Rattle.ntfs_clone.specs.declared.fault.CloneFault.{CloneFault}
 use Rattle.ntfs_clone.specs.declared.header.CloneHeader.{CloneHeader}
 use Rattle.ntfs_clone.specs.CloneOf.{IsVolume, Volume, clone_of, cluster_commands, header_bytes, owned_count, saved_commands, saved_header, tail_of, widened}
-use Rattle.ntfs_clone.specs.Commands.{AreInOrder, Command, gap, cluster, commands_bytes, covered, is_empty_gap, may_follow, read_clone}
+use Rattle.ntfs_clone.specs.Commands.{AreInOrder, Command, gap, cluster, commands_bytes, is_empty_gap, may_follow, read_clone}
 use Rattle.ntfs_clone.specs.Header.{IsHeader, clone_header, clone_magic, clone_version, fixed_part, header_fields, header_in, is_clone_cluster, is_clone_count, is_device, magic_of, version_of}
 use Rattle.ntfs_clone.proofs.CopyLawLemmas.{saved-covered}
 use Rattle.ntfs_clone.proofs.SpellingLemmas.{spelled-read}

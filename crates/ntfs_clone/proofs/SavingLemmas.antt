@@ -9,7 +9,7 @@ use Rattle.ntfs_base.proofs.SinkLemmas.{after_put-append, after_put-nil}
 use Rattle.ntfs_clone.specs.declared.fault.CloneFault.{CloneFault}
 use Rattle.ntfs_clone.specs.declared.fault.CloneFault.TheVariants as clone
 use Rattle.ntfs_clone.specs.Fault.{IsSaveFault, IsWriteFault, clone_origin}
-use Rattle.ntfs_clone.specs.Saving.{IsSaved, Saves}
+use Rattle.ntfs_clone.specs.Saving.{HasPut, IsSaved, Saves}
 
 -- ---- prefixes
 
@@ -126,6 +126,26 @@ pub saves-full : {T U D E : Type 0} (bytes waiting held kept : List ℕ) (before
     → Saves {T = T} bytes waiting before (Err e) kept now
 saves-full bytes waiting held kept before now d e room =
     record { whole = tt; part = prefix-more (waiting ++ bytes) (waiting ++ []) bytes before now (ap (λ xs. xs ++ bytes) (sym (append-nil waiting))) room.part }
+
+-- ---- what a sink is after any call
+
+pub kept-none : (sink : SinkState) → HasPut sink sink
+kept-none sink = record { bytes = []; put = sym (after_put-nil sink) }
+
+pub kept-then : (before now after : SinkState) → HasPut before now → HasPut now after → HasPut before after
+kept-then before now after first next = record {
+  bytes = first.bytes ++ next.bytes;
+  put = next.put ∙ ap (after_put next.bytes) first.put ∙ sym (after_put-append first.bytes next.bytes before);
+}
+
+pub put-kept : {T E : Type 0} (bytes : List ℕ) (before after : SinkState) (result : Result T E) → Put bytes before result after → HasPut before after
+put-kept bytes before after (Ok x) is = record { bytes = bytes; put = is.whole }
+put-kept bytes before after (Err e) is = record { bytes = take is.part.0 bytes; put = is.part.2 }
+
+pub saves-kept : {T E : Type 0} (bytes waiting held : List ℕ) (before after : SinkState) (result : Result T E) → Saves bytes waiting before result held after
+    → HasPut before after
+saves-kept bytes waiting held before after (Ok x) is = record { bytes = is.whole.front; put = is.whole.put }
+saves-kept bytes waiting held before after (Err e) is = record { bytes = take is.part.0 (waiting ++ bytes); put = is.part.2 }
 
 -- ---- loops that save
 

@@ -1,17 +1,14 @@
 -- Commands as they are spelled: what is spelled is read, and what is read was spelled so.
-use Rattle.std.proofs.Common.{◌≡◌, ◌≤◌, ◌<◌, ◌+◌, ◌-◌, ◌*◌, ◌^◌, ℕ, zero, suc, Bool, true, false, not, ◌&&◌, List, [], ◌∷◌, ◌++◌, length, take, drop, refl, sym, ap, ◌∙◌, subst, arith, nat_le, nat_lt, nat_eq, Option, Some, None, Result, Ok, Err, length-append, append_assoc}
-use Rattle.std.proofs.lemmas.Bool.{le-leb, leb-true, eq-eqb, eqb-true, ltb-true}
-use Rattle.std.proofs.lemmas.List.{length-take, length-drop, take-append-drop}
+use Rattle.std.proofs.Common.{◌≡◌, ◌≤◌, ◌<◌, ◌+◌, ◌-◌, ◌^◌, ℕ, zero, suc, Bool, true, false, not, ◌&&◌, List, [], ◌∷◌, ◌++◌, length, take, drop, refl, sym, ap, ◌∙◌, arith, nat_le, nat_lt, nat_eq, Some, None, Ok, length-append}
+use Rattle.std.proofs.lemmas.Bool.{le-leb, leb-true, eq-eqb}
 use Rattle.std.proofs.Math.Seq.{take-append_seam, drop-append_seam}
 use Rattle.byteorder.specs.Endian.{little_bytes}
 use Rattle.byteorder.specs.Numbers.{length-bytes_low_first}
 use Rattle.ntfs_base.specs.Bytes.{number_at}
-use Rattle.ntfs_base.specs.Frames.{must, ◌>>=◌}
 use Rattle.ntfs_base.proofs.BytesLemmas.{number_at-append}
 use Rattle.ntfs_base.proofs.PieceLemmas.{number-bytes}
 use Rattle.ntfs_clone.specs.declared.header.CloneHeader.{CloneHeader}
-use Rattle.ntfs_clone.specs.declared.fault.CloneFault.TheVariants.{BadClone}
-use Rattle.ntfs_clone.specs.Commands.{AreInOrder, Command, gap, cluster, command_bytes, commands_bytes, command_in, command_length, commands_length, next_command, commands_from, and_behind, kept_if, covers, covered, may_follow, is_empty_gap, right_commands, clone_commands}
+use Rattle.ntfs_clone.specs.Commands.{AreInOrder, Command, gap, cluster, command_bytes, commands_bytes, command_in, command_length, commands_length, next_command, commands_from, and_behind, covers, covered, may_follow, is_empty_gap, right_commands, clone_commands}
 use Rattle.ntfs_clone.specs.Header.{IsHeader}
 use Rattle.ntfs_clone.proofs.ReadingLemmas.{commands-none}
 

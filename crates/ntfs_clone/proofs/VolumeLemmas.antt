@@ -1,5 +1,5 @@
 -- The volume that is cloned: its device, its clusters in a row, and its tail.
-use Rattle.std.proofs.Common.{◌≡◌, ◌≤◌, ◌<◌, ◌+◌, ◌-◌, ◌*◌, ◌/◌, ℕ, zero, suc, Bool, true, false, List, [], ◌∷◌, ◌++◌, length, take, drop, replicate, min, refl, sym, ap, ◌∙◌, append_assoc, arith, length-append, if◌then◌else◌}
+use Rattle.std.proofs.Common.{◌≡◌, ◌≤◌, ◌<◌, ◌+◌, ◌-◌, ◌*◌, ◌/◌, ◌^◌, ℕ, zero, suc, Bool, true, List, [], ◌∷◌, ◌++◌, length, take, drop, replicate, min, refl, sym, ap, ◌∙◌, append_assoc, arith, length-append, if◌then◌else◌}
 use Rattle.std.proofs.Math.Seq.{take-append_seam}
 use Rattle.std.proofs.Math.Nat.{div-mul-le_self, lt-div-mul-add, mul-le-mul_left}
 use Rattle.std.proofs.lemmas.List.{drop-drop, length-take, length-drop, take_all, take_min}
@@ -10,7 +10,7 @@ use Rattle.ntfs_base.specs.Growth.{resize_of}
 use Rattle.ntfs_base.proofs.BytesLemmas.{take-drop-take}
 use Rattle.ntfs_bitmap.specs.ClusterSet.{Clusters, count_where}
 use Rattle.ntfs_boot.specs.declared.geometry.Geometry.{Geometry}
-use Rattle.ntfs_boot.specs.Geometry.{IsGood, is_sector_count}
+use Rattle.ntfs_boot.specs.Geometry.{IsCluster, IsGood, is_sector_count}
 use Rattle.ntfs_clone.specs.CloneOf.{device_of, header_bytes, owned_count, tail_of, volume_of}
 use Rattle.ntfs_clone.specs.Header.{clone_magic, clone_version}
 use Rattle.ntfs_clone.specs.declared.header.CloneHeader.{CloneHeader}
@@ -29,17 +29,40 @@ product-least q n s k below = let all : s * (q * n) ≤ s * k = mul-le-mul_left 
 product-most : (q n s k : ℕ) → k + 1 ≤ q * n + n → (k + 1) * s ≤ q * (s * n) + s * n
 product-most q n s k below = let all : s * (k + 1) ≤ s * (q * n + n) = mul-le-mul_left s below in omega (arith, all)
 
+-- the sizes of a geometry that a boot sector tells, whatever its other fields are
+pub record IsSized (g : Geometry) : Type 0 where
+  pub sectors_per_cluster : ℕ
+  pub cluster : IsCluster g.cluster g.sector sectors_per_cluster
+  pub clusters : g.clusters ≡ g.sectors / sectors_per_cluster
+  pub some_clusters : 0 < g.clusters
+  pub most_clusters : g.clusters < 2 ^ 32
+
+pub good-sized : (g : Geometry) → IsGood g → IsSized g
+good-sized g good = record {
+  sectors_per_cluster = good.sectors_per_cluster;
+  cluster = good.cluster;
+  clusters = good.clusters;
+  some_clusters = good.some_clusters;
+  most_clusters = good.most_clusters;
+}
+
+pub sized-least : (g : Geometry) → IsSized g → g.clusters * g.cluster ≤ device_of g
+sized-least g sized =
+    rw (sized.cluster.product, sized.clusters)
+    (product-least (g.sectors / sized.sectors_per_cluster) sized.sectors_per_cluster g.sector g.sectors (div-mul-le_self g.sectors sized.sectors_per_cluster))
+
+pub sized-most : (g : Geometry) → IsSized g → device_of g ≤ g.clusters * g.cluster + g.cluster
+sized-most g sized =
+    let some = some-sectors sized.sectors_per_cluster sized.cluster.sector_count in
+    let next = lt-div-mul-add {a = g.sectors} some in
+    rw (sized.cluster.product, sized.clusters)
+    (product-most (g.sectors / sized.sectors_per_cluster) sized.sectors_per_cluster g.sector g.sectors (omega (arith, next)))
+
 pub device-least : (g : Geometry) → IsGood g → g.clusters * g.cluster ≤ device_of g
-device-least g good =
-    rw (good.cluster.product, good.clusters)
-    (product-least (g.sectors / good.sectors_per_cluster) good.sectors_per_cluster g.sector g.sectors (div-mul-le_self g.sectors good.sectors_per_cluster))
+device-least g good = sized-least g (good-sized g good)
 
 pub device-most : (g : Geometry) → IsGood g → device_of g ≤ g.clusters * g.cluster + g.cluster
-device-most g good =
-    let some = some-sectors good.sectors_per_cluster good.cluster.sector_count in
-    let next = lt-div-mul-add {a = g.sectors} some in
-    rw (good.cluster.product, good.clusters)
-    (product-most (g.sectors / good.sectors_per_cluster) good.sectors_per_cluster g.sector g.sectors (omega (arith, next)))
+device-most g good = sized-most g (good-sized g good)
 
 -- ---- how many clusters are owned
 

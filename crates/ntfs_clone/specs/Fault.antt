@@ -54,3 +54,8 @@ IsSaveFault clone.ReadFault = Unit {0}
 IsSaveFault clone.WriteFault = Unit {0}
 IsSaveFault clone.NoMemory = Unit {0}
 IsSaveFault other = ⊥
+
+-- any but what a checked volume has: a restore reads none
+abbrev pub IsRestoreFault : CloneFault → Type 0
+IsRestoreFault (clone.Damaged rule number) = ⊥
+IsRestoreFault other = Unit {0}

@@ -12,3 +12,4 @@ pub mod Reading
 pub mod Writing
 pub mod Saving
 pub mod Copying
+pub mod Same

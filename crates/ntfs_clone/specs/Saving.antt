@@ -42,6 +42,11 @@ pub record Saves {T E : Type 0} (bytes waiting : List ℕ) (before : SinkState) 
   pub whole : OnOk result (IsSaved (waiting ++ bytes) before held after)
   pub part : OnErr result (PutsPrefix (waiting ++ bytes) before after)
 
+-- some bytes were put, and all else is as before
+pub record HasPut (old new : SinkState) : Type 0 where
+  pub bytes : List ℕ
+  pub put : new ≡ after_put bytes old
+
 -- a call over a sink that takes memory too: want of memory needs no cause
 pub record OnlySaves {K T : Type 0} (k : sink.Ghosts K) (before after : K) (result : Result T CloneFault) : Type 0 where
   pub puts : SinkHasNotFallen (k.faults before) (k.faults after)

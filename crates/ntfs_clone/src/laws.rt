@@ -8,8 +8,11 @@ ghost use Rattle.ntfs_clone.specs.CloneOf.{IsVolume, Volume, clone_of, saved_com
 ghost use Rattle.ntfs_clone.specs.Commands.{AreInOrder, Command, clone_commands, commands_bytes, covered, read_clone};
 ghost use Rattle.ntfs_clone.specs.Copying.{IsPartCopy, copy_of};
 ghost use Rattle.ntfs_clone.specs.Header.{IsHeader};
-ghost use Rattle.ntfs_clone.specs.Restored.{restored};
+ghost use Rattle.ntfs_clone.specs.Restored.{restore_of, restored};
+ghost use Rattle.ntfs_clone.specs.Same.{IsOneVolume, IsSameVolume, owned_volume};
 ghost use Rattle.ntfs_clone.specs.declared.header.CloneHeader.{CloneHeader};
+ghost use Rattle.ntfs_rules.specs.Laws.{HoldsOwned, IsWhole};
+ghost use Rattle.ntfs_volume.specs.Opened.{Opened};
 
 /// Commands that follow one another as they may and cover all clusters, as they are spelled, are read as they are.
 pub fn spelled_commands_are_read()
@@ -38,4 +41,23 @@ pub fn saved_clones_are_read()
 pub fn clones_have_few_commands()
     ensures { (h : CloneHeader) (bytes : List ℕ) (commands : List Command) → clone_commands h bytes ≡ Ok commands
         → length commands ≤ 4 * h.clusters + 8 }
+{}
+
+/// What counts of an accepted image are its owned clusters: another image that has the same bytes in these, and room
+/// for all clusters, is one volume with it. It opens with the same geometry and is accepted, its records own the same
+/// clusters, and it means the same, whatever it has elsewhere.
+pub fn owned_clusters_are_all_that_counts()
+    ensures { (image other : List ℕ) (o : Opened) → IsWhole image o → HoldsOwned image other o
+        → IsOneVolume image other o }
+{}
+
+/// A restored clone is the same volume. What the saved clone of an accepted image restores, and a raw copy has, is as
+/// long as the device and one volume with the image: it is accepted, with the same geometry, and its records own the
+/// same clusters and mean the same. Owned clusters and the tail are the image's byte for byte, and the tail has zeros
+/// where the image ends early; the clusters that nobody owns are zeros.
+pub fn restored_clones_are_the_same_volume()
+    ensures restored { (image : List ℕ) (o : Opened) → IsWhole image o
+        → restore_of (clone_of (owned_volume image o)) ≡ Ok (copy_of (owned_volume image o)) }
+    ensures same { (image : List ℕ) (o : Opened) → IsWhole image o
+        → IsSameVolume image (copy_of (owned_volume image o)) o }
 {}

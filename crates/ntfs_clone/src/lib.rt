@@ -1,8 +1,9 @@
 //! Clone images: the clusters of a volume that its files own, in one stream. Here they are read, restored and
-//! saved, and a volume is copied raw.
+//! saved, and a volume is copied raw; a checked volume comes back as the same volume.
 #![tactic(auto)]
 
 mod backup;
+mod checked;
 mod command;
 mod copying;
 mod fault;
@@ -19,6 +20,7 @@ mod volume;
 mod waiting;
 mod writing;
 
+pub use checked::{copy_raw, save};
 pub use copying::copy_clusters;
 pub use fault::CloneFault;
 pub use header::{CloneHeader, read_header};
@@ -26,6 +28,8 @@ pub use reading::read_commands;
 pub use restoring::{restore, restore_to};
 pub use saving::save_clusters;
 
+#[cfg(test)]
+mod law_tests;
 #[cfg(test)]
 mod save_tests;
 #[cfg(test)]

@@ -3,7 +3,7 @@
 ghost use Rattle.std.specs.Prelude.{◌≡◌, ◌≤◌, ◌<◌, ◌+◌, ◌-◌, ◌*◌, ◌⊎◌, ◌++◌, ◌∷◌, ◌==◌, [], List, length, take, true, None, IfOk, IfErr, IsOk, OnOk, OnErr, IfSome, IsTrue};
 ghost use Rattle.ntfs_base.specs.Frames.{Gives, IsSameDevice, OnlyTakes, OnlyWrites};
 ghost use Rattle.ntfs_clone.specs.Commands.{Command, clone_commands, covers, emptied, right_commands};
-ghost use Rattle.ntfs_clone.specs.Fault.{IsReadOnlyFault, IsWriteFault, clone_origin};
+ghost use Rattle.ntfs_clone.specs.Fault.{IsReadOnlyFault, IsRestoreFault, IsWriteFault, clone_origin};
 ghost use Rattle.ntfs_clone.specs.Header.{IsHeader};
 ghost use Rattle.ntfs_clone.specs.Reading.{IsAllowed, found_in, found_length};
 ghost use Rattle.ntfs_clone.specs.Restored.{laid_out};
@@ -72,6 +72,7 @@ fn write_commands<I: Source, F: HostFile>(
     ensures end { OnOk result (IsTrue (I.seen source.old).is_told → to_come (I.seen source.new) ≡ []) }
     ensures written { IsTrue (I.seen source.old).is_told → IsTrue (F.seen target.old).is_told
         → IsWritten header.now (to_come (I.seen source.old)) result (F.seen target.new).content }
+    ensures fails { IfErr result IsRestoreFault }
     ensures kept { HasGiven (I.seen source.old) (I.seen source.new) }
     ensures same { IsSameFile (F.seen target.old) (F.seen target.new) }
     ensures restores { Restores I.Source F.Image source.old source.new target.old target.new result }
@@ -133,6 +134,7 @@ pub fn restore_to<I: Source, F: HostFile>(
     ensures end { OnOk result (IsTrue (I.seen source.old).is_told → to_come (I.seen source.new) ≡ []) }
     ensures restored { IsTrue (I.seen source.old).is_told → IsTrue (F.seen target.old).is_told
         → IsRestored header.now (to_come (I.seen source.old)) result (F.seen target.new).content }
+    ensures refuses { IfErr result IsRestoreFault }
     ensures size { OnOk result ((F.seen target.new).size ≡ header.now.device) }
     ensures sizes { ((F.seen target.new).size ≡ 0) ⊎ ((F.seen target.new).size ≡ header.now.device) }
     ensures kept { HasGiven (I.seen source.old) (I.seen source.new) }
@@ -169,6 +171,7 @@ pub fn restore<I: Source, F: HostFile>(
         IsSameDevice (F.seen before.now) (F.seen after.0.now))) }
     ensures restores { IfSome target.entry (λ before. OnTarget target.exit (λ after.
         Restores I.Source F.Image source.old source.new before.now after.0.now result)) }
+    ensures refuses { IfErr result IsRestoreFault }
     ensures only_reads { target.entry ≡ None → IfErr result IsReadOnlyFault }
     ensures takes { target.entry ≡ None → OnlyTakes I.Source clone_origin source.old source.new result }
     ensures kept { HasGiven (I.seen source.old) (I.seen source.new) }

@@ -7,7 +7,7 @@ ghost use Rattle.ntfs_boot.specs.Geometry.{IsOpened};
 ghost use Rattle.ntfs_clone.specs.CloneOf.{clone_of, cluster_commands, tail_of, volume_of};
 ghost use Rattle.ntfs_clone.specs.Commands.{cluster, command_bytes, commands_bytes};
 ghost use Rattle.ntfs_clone.specs.Fault.{IsSaveFault, clone_origin};
-ghost use Rattle.ntfs_clone.specs.Saving.{Saves, spelled_gap, spelled_row};
+ghost use Rattle.ntfs_clone.specs.Saving.{HasPut, Saves, spelled_gap, spelled_row};
 
 use crate::fault::CloneFault;
 use crate::input::zeros;
@@ -36,6 +36,7 @@ fn save_row<G: Image, K: Sink>(
     ensures saved { IfTold G.Image image.old (λ content. Saves
         (spelled_row content geometry.now.cluster from count)
         waiting.old.items (K.seen sink.old) result waiting.new.items (K.seen sink.new)) }
+    ensures kept { HasPut (K.seen sink.old) (K.seen sink.new) }
     ensures copies { Copies G.Image K.Sink clone_origin image.old image.new sink.old sink.new result }
     ensures fails { IfErr result IsSaveFault }
 {
@@ -64,6 +65,7 @@ fn save_rows<G: Image, K: Sink>(
     ensures saved { IfTold G.Image image.old (λ content. Saves
         (spelled_row content geometry.now.cluster from (end - from))
         waiting.old.items (K.seen sink.old) result waiting.new.items (K.seen sink.new)) }
+    ensures kept { HasPut (K.seen sink.old) (K.seen sink.new) }
     ensures copies { Copies G.Image K.Sink clone_origin image.old image.new sink.old sink.new result }
     ensures fails { IfErr result IsSaveFault }
 {
@@ -96,6 +98,7 @@ fn save_stretch<G: Image, K: Sink>(
         (spelled_row content geometry.now.cluster from (stretch.now.free - from)
         ++ spelled_gap (stretch.now.end - stretch.now.free))
         waiting.old.items (K.seen sink.old) result waiting.new.items (K.seen sink.new)) }
+    ensures kept { HasPut (K.seen sink.old) (K.seen sink.new) }
     ensures copies { Copies G.Image K.Sink clone_origin image.old image.new sink.old sink.new result }
     ensures fails { IfErr result IsSaveFault }
 {
@@ -118,6 +121,7 @@ fn save_stretches<G: Image, K: Sink>(
     ensures saved { IfTold G.Image image.old (λ content. Saves
         (commands_bytes (cluster_commands (volume_of geometry.now owned.now content) 0 geometry.now.clusters []))
         waiting.old.items (K.seen sink.old) result waiting.new.items (K.seen sink.new)) }
+    ensures kept { HasPut (K.seen sink.old) (K.seen sink.new) }
     ensures copies { Copies G.Image K.Sink clone_origin image.old image.new sink.old sink.new result }
     ensures fails { IfErr result IsSaveFault }
 {
@@ -143,6 +147,7 @@ fn save_tail<G: Image, K: Sink>(
     ensures saved { (owned : Clusters) → IfTold G.Image image.old (λ content. Saves
         (command_bytes (cluster (tail_of (volume_of geometry.now owned content))))
         waiting.old.items (K.seen sink.old) result waiting.new.items (K.seen sink.new)) }
+    ensures kept { HasPut (K.seen sink.old) (K.seen sink.new) }
     ensures copies { Copies G.Image K.Sink clone_origin image.old image.new sink.old sink.new result }
     ensures fails { IfErr result IsSaveFault }
 {
@@ -171,6 +176,7 @@ pub fn save_clusters<G: Image, K: Sink>(
     requires bound { bound_of owned.now ≡ geometry.now.clusters }
     ensures told { IfTold G.Image image.old (λ content. Puts clone_origin
         (Ok (clone_of (volume_of geometry.now owned.now content))) (K.seen sink.old) result (K.seen sink.new)) }
+    ensures kept { HasPut (K.seen sink.old) (K.seen sink.new) }
     ensures fails { IfErr result IsSaveFault }
     ensures copies { Copies G.Image K.Sink clone_origin image.old image.new sink.old sink.new result }
 {

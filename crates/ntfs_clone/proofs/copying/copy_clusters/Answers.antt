@@ -1,4 +1,4 @@
-use Rattle.std.proofs.Common.{◌≡◌, ◌⊎◌, ◌∙◌, ap, inr, refl, ℕ, IsTrue, Result, Ok, Err}
+use Rattle.std.proofs.Common.{◌≡◌, ◌∙◌, inr, refl, IsTrue, Result, Ok, Err}
 use Rattle.std.specs.Prelude.{OnOk}
 use Rattle.ntfs_clone.specs.declared.fault.CloneFault.{CloneFault}
 use Rattle.std.proofs.lemmas.List.{nil_from_length}

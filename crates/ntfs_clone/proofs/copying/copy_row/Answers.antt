@@ -1,4 +1,4 @@
-use Rattle.std.proofs.Common.{◌≡◌, ◌≤◌, ◌*◌, arith, length, subst, sym, ℕ}
+use Rattle.std.proofs.Common.{◌≡◌, ◌≤◌, arith, length, subst, sym, ℕ}
 use Rattle.ntfs_boot.specs.Geometry.{bytes_of_clusters}
 use Rattle.ntfs_clone.specs.CloneOf.{volume_of}
 use Rattle.ntfs_clone.proofs.CopyingLemmas.{row-wrote}

@@ -1,7 +1,6 @@
-use Rattle.std.proofs.Common.{◌≡◌, ◌≤◌, ◌+◌, ◌∙◌, ap, refl, arith, subst, sym, ℕ, IsTrue, Ok, Err}
+use Rattle.std.proofs.Common.{◌≡◌, ◌≤◌, ◌+◌, ◌∙◌, ap, refl, arith, IsTrue, Err}
 use Rattle.std.proofs.lemmas.Result.{err_from_is_err_and}
 use Rattle.ntfs_base.proofs.FramesLemmas.{told_still}
-use Rattle.ntfs_bitmap.specs.ClusterSet.{Clusters}
 use Rattle.ntfs_clone.specs.CloneOf.{volume_of}
 use Rattle.ntfs_clone.specs.Copying.{IsCopiedUpTo, copied_up_to}
 use Rattle.ntfs_clone.proofs.CopyingLemmas.{up-to-fewer}

@@ -6,7 +6,7 @@ use Rattle.ntfs_clone.specs.Commands.{cluster, command_bytes}
 use Rattle.ntfs_clone.specs.Saving.{Saves}
 use Rattle.ntfs_clone.specs.declared.fault.CloneFault.{CloneFault}
 use Rattle.ntfs_clone.specs.declared.fault.CloneFault.TheVariants.{NoMemory}
-use Rattle.ntfs_clone.proofs.SavingLemmas.{puts-all, puts-clusters, puts-nothing, puts-tail}
+use Rattle.ntfs_clone.proofs.SavingLemmas.{kept-none, kept-then, put-kept, puts-all, puts-clusters, puts-nothing, puts-tail}
 use Rattle.ntfs_clone.proofs.WalkLemmas.{clone-parts}
 use Rattle.ntfs_clone.proofs.saving.save_clusters.Goals as goal
 
@@ -60,3 +60,18 @@ returns-clause-told g c told =
     c.save_stretches.new.waiting.items (g.K.Sink.seen c.save_stretches.new.sink) (Ok tt) c.save_tail.new.waiting.items (g.K.Sink.seen c.save_tail.new.sink))
     clusters.copies.seen (c.in_ok-save_tail.ensures.saved owned) in
     puts-all _ _ _ _ _ _ _ _ _ _ _ _ _ _ (clone-parts v) head c.put_rest.ensures.fails (clusters.saved told) (last told) c.put_rest.ensures.put
+
+pub returns-in_err-row-clause-kept : goal.returns-in_err-row-clause-kept
+returns-in_err-row-clause-kept g c = kept-none _
+
+pub returns-in_err-waiting-clause-kept : goal.returns-in_err-waiting-clause-kept
+returns-in_err-waiting-clause-kept g c = kept-none _
+
+pub returns-in_err-add_header-clause-kept : goal.returns-in_err-add_header-clause-kept
+returns-in_err-add_header-clause-kept g c = kept-none _
+
+pub returns-in_err-save_tail-clause-kept : goal.returns-in_err-save_tail-clause-kept
+returns-in_err-save_tail-clause-kept g c = kept-then _ _ _ c.in_ok-save_stretches.ensures.kept c.in_err-save_tail.ensures.kept
+
+pub returns-clause-kept : goal.returns-clause-kept
+returns-clause-kept g c = kept-then _ _ _ c.in_ok-save_stretches.ensures.kept (kept-then _ _ _ c.in_ok-save_tail.ensures.kept (put-kept _ _ _ _ c.put_rest.ensures.put))

@@ -1,7 +1,7 @@
-use Rattle.std.proofs.Common.{◌≡◌, ◌*◌, ◌++◌, ◌∙◌, ap, take, drop}
+use Rattle.std.proofs.Common.{◌++◌, ◌∙◌, ap}
 use Rattle.std.proofs.lemmas.Result.{err_from_is_err_and}
 use Rattle.ntfs_clone.specs.Saving.{spelled_row}
-use Rattle.ntfs_clone.proofs.SavingLemmas.{saves-full, saves-stop, saves-wait, saves-want}
+use Rattle.ntfs_clone.proofs.SavingLemmas.{kept-none, saves-full, saves-kept, saves-stop, saves-wait, saves-want}
 use Rattle.ntfs_clone.proofs.VolumeLemmas.{row-read}
 use Rattle.ntfs_clone.proofs.saving.save_row.Goals as goal
 
@@ -26,3 +26,15 @@ returns-clause-saved g c told =
     let content = (g.G.Image.seen c.args.image.now).content in
     let spelled = ap (λ bytes. spelled_row bytes k.cluster 0 c.args.count) (c.in_ok-read_row.ensures.bytes told) ∙ row-read content k.cluster c.args.from c.args.count in
     saves-wait _ _ _ _ _ _ _ _ c.in_ok-make_room.ensures.saved (c.in_ok-add_clusters.ensures ∙ ap (λ bytes. c.make_room.new.waiting.items ++ bytes) spelled)
+
+pub returns-in_err-read_row-clause-kept : goal.returns-in_err-read_row-clause-kept
+returns-in_err-read_row-clause-kept g c = kept-none _
+
+pub returns-in_err-make_room-clause-kept : goal.returns-in_err-make_room-clause-kept
+returns-in_err-make_room-clause-kept g c = saves-kept _ _ _ _ _ _ c.in_err-make_room.ensures.saved
+
+pub returns-in_err-add_clusters-clause-kept : goal.returns-in_err-add_clusters-clause-kept
+returns-in_err-add_clusters-clause-kept g c = saves-kept _ _ _ _ _ _ c.in_ok-make_room.ensures.saved
+
+pub returns-clause-kept : goal.returns-clause-kept
+returns-clause-kept g c = saves-kept _ _ _ _ _ _ c.in_ok-make_room.ensures.saved

@@ -1,9 +1,9 @@
-use Rattle.std.proofs.Common.{◌≤◌, ◌+◌, ◌-◌, ◌∙◌, refl, arith, Ok, Err}
+use Rattle.std.proofs.Common.{◌≤◌, ◌+◌, ◌∙◌, refl, arith, Ok, Err}
 use Rattle.std.proofs.lemmas.Result.{err_from_is_err_and}
 use Rattle.ntfs_base.proofs.FramesLemmas.{told_still}
 use Rattle.ntfs_clone.specs.declared.fault.CloneFault.{CloneFault}
 use Rattle.ntfs_clone.specs.Saving.{Saves, spelled_row}
-use Rattle.ntfs_clone.proofs.SavingLemmas.{way-cut, way-end, way-next, way-start}
+use Rattle.ntfs_clone.proofs.SavingLemmas.{kept-none, kept-then, way-cut, way-end, way-next, way-start}
 use Rattle.ntfs_clone.proofs.WalkLemmas.{row-more, row-none}
 use Rattle.ntfs_clone.proofs.saving.save_rows.Goals as goal
 
@@ -13,6 +13,7 @@ rows-init g c = record {
   seen = refl;
   counts = record { reads = omega arith; writes = omega arith };
   puts = record { failures = omega arith; wants = omega arith };
+  kept = kept-none _;
   saved = λ told. way-start _ _ _;
 }
 
@@ -39,9 +40,13 @@ rows-preserved g c =
       seen = copies.seen ∙ c.rows.invariant.seen;
       counts = record { reads = omega (arith, copies.counts.reads, c.rows.invariant.counts.reads); writes = omega (arith, copies.counts.writes, c.rows.invariant.counts.writes) };
       puts = record { failures = omega (arith, copies.puts.failures, c.rows.invariant.puts.failures); wants = omega (arith, copies.puts.wants, c.rows.invariant.puts.wants) };
+      kept = kept-then _ _ _ c.rows.invariant.kept c.in_ok-save_row.ensures.kept;
       saved = λ told. way-next _ _ _ _ _ _ _ _ _ _ _ (row-more content k.cluster c.rows.at c.min-count.result c.args.end within) (c.rows.invariant.saved told) (saves told);
     }
 
 pub returns-clause-saved : goal.returns-clause-saved
 returns-clause-saved g c told =
     way-end _ _ _ _ _ _ _ (row-none (g.G.Image.seen c.args.image.now).content c.args.geometry.now.cluster c.rows.at c.args.end c.rows-test.false) (c.rows.invariant.saved told)
+
+pub returns-in_err-save_row-clause-kept : goal.returns-in_err-save_row-clause-kept
+returns-in_err-save_row-clause-kept g c = kept-then _ _ _ c.rows.invariant.kept c.in_err-save_row.ensures.kept

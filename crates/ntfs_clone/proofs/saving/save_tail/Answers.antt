@@ -1,9 +1,8 @@
-use Rattle.std.proofs.Common.{◌≡◌, ◌*◌, ◌++◌, ◌∙◌, ap, arith}
+use Rattle.std.proofs.Common.{◌++◌, ◌∙◌, ap, arith}
 use Rattle.std.proofs.lemmas.List.{length-take-le}
 use Rattle.std.proofs.lemmas.Result.{err_from_is_err_and}
 use Rattle.ntfs_clone.specs.Commands.{cluster, command_bytes}
-use Rattle.ntfs_clone.specs.Saving.{spelled_row}
-use Rattle.ntfs_clone.proofs.SavingLemmas.{saves-full, saves-stop, saves-wait, saves-want}
+use Rattle.ntfs_clone.proofs.SavingLemmas.{kept-none, saves-full, saves-kept, saves-stop, saves-wait, saves-want}
 use Rattle.ntfs_clone.proofs.WalkLemmas.{tail-row}
 use Rattle.ntfs_clone.proofs.saving.save_tail.Goals as goal
 
@@ -27,3 +26,15 @@ returns-clause-saved g c owned told =
     let k = c.args.geometry.now in
     let spelled = tail-row c.read_tail.new.tail k.cluster (c.read_tail.auto.tail ∙ length-take-le k.cluster c.args.row.now (omega (arith, c.requires.opened.good.most_cluster, c.requires.row))) ∙ ap (λ bytes. command_bytes (cluster bytes)) (c.in_ok-read_tail.ensures.bytes owned told) in
     saves-wait _ _ _ _ _ _ _ _ c.in_ok-make_room.ensures.saved (c.in_ok-add_clusters.ensures ∙ ap (λ bytes. c.make_room.new.waiting.items ++ bytes) spelled)
+
+pub returns-in_err-read_tail-clause-kept : goal.returns-in_err-read_tail-clause-kept
+returns-in_err-read_tail-clause-kept g c = kept-none _
+
+pub returns-in_err-make_room-clause-kept : goal.returns-in_err-make_room-clause-kept
+returns-in_err-make_room-clause-kept g c = saves-kept _ _ _ _ _ _ c.in_err-make_room.ensures.saved
+
+pub returns-in_err-add_clusters-clause-kept : goal.returns-in_err-add_clusters-clause-kept
+returns-in_err-add_clusters-clause-kept g c = saves-kept _ _ _ _ _ _ c.in_ok-make_room.ensures.saved
+
+pub returns-clause-kept : goal.returns-clause-kept
+returns-clause-kept g c = saves-kept _ _ _ _ _ _ c.in_ok-make_room.ensures.saved

@@ -1,4 +1,4 @@
-use Rattle.std.proofs.Common.{◌≡◌, ◌≤◌, ◌∙◌, ap, arith, length, min, subst, sym, ℕ}
+use Rattle.std.proofs.Common.{◌≡◌, ◌≤◌, ◌∙◌, ap, length, min, subst, sym, ℕ}
 use Rattle.ntfs_boot.specs.Geometry.{bytes_of_clusters}
 use Rattle.ntfs_clone.proofs.VolumeLemmas.{tail-whole}
 use Rattle.ntfs_clone.proofs.volume.read_tail.Goals as goal

@@ -1,4 +1,4 @@
-use Rattle.ntfs_clone.proofs.SavingLemmas.{saves-none, saves-rest, saves-rest-cut}
+use Rattle.ntfs_clone.proofs.SavingLemmas.{saves-none}
 use Rattle.ntfs_clone.proofs.waiting.make_room.Goals as goal
 
 pub returns-then-count-saturating_sub-clause-saved : goal.returns-then-count-saturating_sub-clause-saved
