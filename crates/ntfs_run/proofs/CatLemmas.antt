@@ -1,5 +1,5 @@
 -- What ntfscat puts: where its work was done, the stream of the record.
-use Rattle.std.proofs.Common.{◌≡◌, ℕ, List, refl, sym, ap, ◌∙◌, Result, Ok, Err, Option, Some, None, ok_or}
+use Rattle.std.proofs.Common.{◌≡◌, ℕ, true, List, refl, sym, ap, ◌∙◌, Result, Ok, Err, Option, Some, None, ok_or}
 use Rattle.ntfs_base.specs.Bytes.{cluster_at}
 use Rattle.ntfs_base.specs.Frames.{must, refused_as, ◌>>=◌}
 use Rattle.ntfs_base.specs.Shelf.{Files, file_of}
@@ -28,7 +28,7 @@ use Rattle.ntfs_run.specs.Place.{number_at, number_meant}
 use Rattle.ntfs_words.specs.declared.request.WordsFault.{WordsFault}
 use Rattle.ntfs_run.specs.Cat.{IsStreamOf, PutsStream, cat_bytes, stream_name}
 use Rattle.ntfs_run.specs.Outcome.{Does, path_status, show_status, status_of, status_origin, volume_status}
-use Rattle.ntfs_run.specs.Reply.{PutsIfCat, outcome_for}
+use Rattle.ntfs_run.specs.Reply.{PutsIfCat, outcome_for, reads_input}
 use Rattle.ntfs_run.specs.Show.{image_printing, volume_printing}
 use Rattle.ntfs_show.specs.RecordInfo.{printing_after}
 use Rattle.ntfs_run.specs.declared.status.Status.{Status}
@@ -159,15 +159,16 @@ module _ (file : List ℕ) (place : Target) (kind : ℕ) (name : Option (List �
   file_done None held done = absurd cc
 
 -- ntfscat puts the stream, of whatever words it was told
-cat_stream : (file : List ℕ) (place : Target) (kind : ℕ) (name : Option (List ℕ)) (s : Status) (files left : Files) (before after : SinkState)
-    → Does (outcome_for (Ok (request.Cat place kind name file)) files) s before after left
+cat_stream : (file : List ℕ) (place : Target) (kind : ℕ) (name : Option (List ℕ)) (s : Status) (files left : Files) (input : List ℕ) (before after : SinkState)
+    → Does (outcome_for (Ok (request.Cat place kind name file)) files input) s before after left
     → PutsIfCat (Ok (request.Cat place kind name file)) s files before after
-cat_stream file place kind name status.Done files left before after does =
+cat_stream file place kind name status.Done files left input before after does =
     file_done file place kind name files before after (file_of files file) refl (does.status tt, does.output tt)
-cat_stream file place kind name other files left before after does = tt
+cat_stream file place kind name other files left input before after does = tt
 
-pub puts_stream : (reading : Result Request WordsFault) (s : Status) (files left : Files) (before after : SinkState)
-    → Does (outcome_for reading files) s before after left → PutsIfCat reading s files before after
-puts_stream (Ok (request.Cat place kind name file)) s files left before after does =
-    cat_stream file place kind name s files left before after does
-puts_stream other s files left before after does = tt
+-- it reads no input
+pub puts_stream : (reading : Result Request WordsFault) (s : Status) (files left : Files) (input : List ℕ) (told : Type 0) (before after : SinkState)
+    → ((reads_input reading ≡ true → told) → Does (outcome_for reading files input) s before after left) → PutsIfCat reading s files before after
+puts_stream (Ok (request.Cat place kind name file)) s files left input told before after does =
+    cat_stream file place kind name s files left input before after (does (λ reads. absurd cc))
+puts_stream other s files left input told before after does = tt

@@ -1,7 +1,14 @@
 pub mod MessageLemmas
 pub mod RangeLemmas
+pub mod ApartLemmas
 pub mod ToolLemmas
+pub mod FillLemmas
 pub mod MakeLemmas
+pub mod OutputLemmas
+pub mod ReturnLemmas
+pub mod RestoreLemmas
+pub mod CloneLemmas
 pub mod CatLemmas
 pub mod ShowLemmas
+pub mod HeadlineLemmas
 pub mod ReplyLemmas

@@ -116,29 +116,29 @@ created-attached name shelf file named = ap (λ b. if b then shelf.attached else
 -- ---- the tool
 
 -- the file's name is attached until it is released
-pub filled_is_attached : {S F : Type 0} (s : shelf.Ghosts S F) (f : image.Ghosts F) (old held : S) (file filled : F) (name : List ℕ)
-    → IsCreated (s.seen old) name true (f.seen file) (f.faults file) → s.seen held ≡ after_create name (s.seen old)
+pub filled_is_attached : {S F : Type 0} {fresh : Bool} (s : shelf.Ghosts S F) (f : image.Ghosts F) (old held : S) (file filled : F) (name : List ℕ)
+    → IsCreated (s.seen old) name fresh (f.seen file) (f.faults file) → s.seen held ≡ after_create name (s.seen old)
     → (f.seen filled).name ≡ (f.seen file).name → has_name (f.seen filled).name (s.seen held).attached ≡ true
 filled_is_attached s f old held file filled name out created named =
     ap (λ shelf. has_name (f.seen filled).name shelf.attached) created ∙ has_name-created name (s.seen old) (f.seen filled) (named ∙ out.bears)
 
 -- what the shelf is then
-pub released_files : {S F : Type 0} (s : shelf.Ghosts S F) (f : image.Ghosts F) (old held new : S) (file filled : F) (name : List ℕ)
-    → IsCreated (s.seen old) name true (f.seen file) (f.faults file) → s.seen held ≡ after_create name (s.seen old)
+pub released_files : {S F : Type 0} {fresh : Bool} (s : shelf.Ghosts S F) (f : image.Ghosts F) (old held new : S) (file filled : F) (name : List ℕ)
+    → IsCreated (s.seen old) name fresh (f.seen file) (f.faults file) → s.seen held ≡ after_create name (s.seen old)
     → (f.seen filled).name ≡ (f.seen file).name → s.seen new ≡ after_release (f.seen filled) (s.seen held) → IsTrue (s.seen old).is_told
     → (s.seen new).files ≡ insert (s.seen old).files name (f.seen filled).content
 released_files s f old held new file filled name out created named released told =
     ap (λ shelf. shelf.files) (released ∙ ap (after_release (f.seen filled)) created)
     ∙ created-files name (s.seen old) (f.seen filled) (named ∙ out.bears) told
 
-released_attached : {S F : Type 0} (s : shelf.Ghosts S F) (f : image.Ghosts F) (old held new : S) (file filled : F) (name : List ℕ)
-    → IsCreated (s.seen old) name true (f.seen file) (f.faults file) → s.seen held ≡ after_create name (s.seen old)
+pub released_attached : {S F : Type 0} {fresh : Bool} (s : shelf.Ghosts S F) (f : image.Ghosts F) (old held new : S) (file filled : F) (name : List ℕ)
+    → IsCreated (s.seen old) name fresh (f.seen file) (f.faults file) → s.seen held ≡ after_create name (s.seen old)
     → (f.seen filled).name ≡ (f.seen file).name → s.seen new ≡ after_release (f.seen filled) (s.seen held) → (s.seen new).attached ≡ (s.seen old).attached
 released_attached s f old held new file filled name out created named released =
     ap (λ shelf. shelf.attached) (released ∙ ap (after_release (f.seen filled)) created)
     ∙ created-attached name (s.seen old) (f.seen filled) (named ∙ out.bears)
 
-created-told : (name : List ℕ) (file : ImageState) (shelf : ShelfState) → (after_release file (after_create name shelf)).is_told ≡ shelf.is_told
+pub created-told : (name : List ℕ) (file : ImageState) (shelf : ShelfState) → (after_release file (after_create name shelf)).is_told ≡ shelf.is_told
 unfolding after_release after_create
 created-told name file shelf = refl
 
@@ -152,7 +152,7 @@ not_settled status.WriteFault is settled = settled
 not_settled status.NoMemory is settled = settled
 not_settled other is settled = is
 
-on_ok : {T E P : Type 0} (result : Result T E) → P → OnOk result P
+pub on_ok : {T E P : Type 0} (result : Result T E) → P → OnOk result P
 on_ok (Ok x) is = is
 on_ok (Err fault) is = tt
 

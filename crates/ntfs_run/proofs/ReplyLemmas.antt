@@ -1,5 +1,5 @@
 -- What the answer of a tool says of the program's reply.
-use Rattle.std.proofs.Common.{◌≡◌, ℕ, true, List, [], refl, sym, ap, subst, ◌∙◌, Result, Ok, Err, Option, Some, None}
+use Rattle.std.proofs.Common.{◌≡◌, ◌≤◌, ℕ, Bool, true, false, IsTrue, List, [], refl, sym, ap, subst, ◌∙◌, Result, Ok, Err, Option, Some, None}
 use Rattle.std.proofs.Common.{IfErr, IfOk, OnOk, is_ok, inl, inr, length, arith}
 use Rattle.std.proofs.Math.Seq.{take-nil}
 use Rattle.std.proofs.lemmas.List.{take_all}
@@ -13,6 +13,9 @@ use Rattle.ntfs_base.specs.declared.fault.SinkFaults.{SinkFaults}
 use Rattle.ntfs_base.specs.declared.refusal.UsageKind.{UsageKind}
 use Rattle.ntfs_base.specs.declared.shelf.Shelf as shelf
 use Rattle.ntfs_base.specs.declared.sink.Sink as sink
+use Rattle.ntfs_base.specs.declared.source.Source as source
+use Rattle.ntfs_clone.specs.Taking.{to_come}
+use Rattle.ntfs_clone.proofs.TakingLemmas.{after_take-none}
 use Rattle.ntfs_words.specs.Answers.{CanFail, CanMisuse, tool_for}
 use Rattle.ntfs_words.specs.Line.{Reads}
 use Rattle.ntfs_words.specs.declared.request.Request.{Request}
@@ -21,17 +24,20 @@ use Rattle.ntfs_words.specs.declared.request.WordsFault.{WordsFault}
 use Rattle.ntfs_words.specs.declared.request.WordsFault.TheVariants as words_fault
 use Rattle.ntfs_words.specs.declared.tool.Tool.{Tool}
 use Rattle.ntfs_run.specs.Cat.{CatRefuses}
+use Rattle.ntfs_run.specs.Clone.{RestoreRefuses, SaveRefuses}
 use Rattle.ntfs_run.specs.Cluster.{ClusterRefuses}
 use Rattle.ntfs_run.specs.Command.{is_standing, request_in, tool_in}
 use Rattle.ntfs_run.specs.Info.{GeometryRefuses, RecordRefuses}
 use Rattle.ntfs_run.specs.Ls.{ListRefuses}
 use Rattle.ntfs_run.specs.Make.{MakeRefuses}
 use Rattle.ntfs_base.proofs.SinkLemmas.{after_put-nil}
-use Rattle.ntfs_run.specs.Outcome.{Does, MayWriteFiles, Outcome, refused_with, status_of, status_origin, words_status}
+use Rattle.ntfs_run.specs.Outcome.{Does, IfDone, IfInput, IfNone, KeepsOthers, MayReadInput, Outcome, TakesInput, refused_with, status_of, status_origin, words_status}
 use Rattle.ntfs_run.specs.Message.{line_for, message_for, message_of}
-use Rattle.ntfs_run.specs.Reply.{CanAnswer, CanRefuse, IfDone, KeepsShelf, LeavesFiles, PutsIfCat, PutsMessage, Replies, RequestRefuses}
-use Rattle.ntfs_run.specs.Reply.{outcome_for, reply}
+use Rattle.ntfs_run.specs.Reply.{CanAnswer, CanRefuse, LeavesFiles, PutsIfCat, PutsMessage, Replies, RequestRefuses}
+use Rattle.ntfs_run.specs.Reply.{outcome_for, output_of, reads_input, reply}
 use Rattle.ntfs_run.proofs.CatLemmas.{puts_stream}
+use Rattle.ntfs_run.proofs.HeadlineLemmas.{clones_done, no_clones}
+use Rattle.ntfs_run.proofs.OutputLemmas.{leaves_same, others_same}
 use Rattle.ntfs_run.specs.declared.status.Status.{Status}
 use Rattle.ntfs_run.specs.declared.status.Status.TheVariants as status
 
@@ -73,12 +79,24 @@ make_other status.Done is = is
 make_other (status.Usage kind) is = is
 make_other other is = tt
 
+restore_other : (output : Option (List ℕ)) (overwrite : Bool) (source : Option (List ℕ)) (fault : Status) → RestoreRefuses output overwrite source fault → IsOther fault
+restore_other output overwrite source status.Done is = is
+restore_other output overwrite source (status.Usage kind) is = is
+restore_other output overwrite source other is = tt
+
+save_other : (force : Bool) (output : Option (List ℕ)) (overwrite : Bool) (fault : Status) → SaveRefuses force output overwrite fault → IsOther fault
+save_other force output overwrite status.Done is = is
+save_other force output overwrite (status.Usage kind) is = is
+save_other force output overwrite other is = tt
+
 is_other : (request : Request) (fault : Status) → is_standing (tool_for request) ≡ true → RequestRefuses request fault → IsOther fault
 is_other (request.Info mft None image) fault built is = geometry_other fault is
 is_other (request.Info mft (Some number) image) fault built is = record_other fault is
 is_other (request.Ls all numbers classify recursive system dos path image) fault built is = list_other fault is
 is_other (request.Cat place kind name image) fault built is = cat_other fault is
 is_other (request.Cluster question image) fault built is = cluster_other fault is
+is_other (request.Clone save true no_action force output overwrite source) fault built is = restore_other output overwrite source fault is
+is_other (request.Clone save false no_action force output overwrite source) fault built is = save_other force output overwrite fault is
 is_other (request.Make file seed clusters cluster) fault built is = make_other fault is
 is_other other fault built is = absurd cc
 
@@ -163,41 +181,50 @@ puts_message line old new before after (Err put.Failed) is cause =
 puts_message line old new before after (Err put.NoMemory) is cause =
     record { whole = inr (inr cause.cause); prefix = is.part; counts = record { failures = cause.failures; wants = cause.wants } }
 
+-- what the tool answers, to words that were read or refused
+pub record Answered {S F I O : Type 0} (s : shelf.Ghosts S F) (i : source.Ghosts I) (o : sink.Ghosts O) (reading : Result Request WordsFault)
+    (old new : S) (in_old in_new : I) (out_old out_new : O) (result : Result (Unit {0}) Status) : Type 0 where
+  pub does : IfFiles s old (λ files. IfInput i (reads_input reading) in_old (λ bytes.
+      Does (outcome_for reading files bytes) (status_of result) (o.seen out_old) (o.seen out_new) (s.seen new).files))
+  pub left : IfFiles s old (λ files. IfInput i (reads_input reading) in_old (λ bytes. LeavesFiles reading files bytes (s.seen new).files))
+  pub others : IfFiles s old (λ files. KeepsOthers (output_of reading) files (s.seen new).files)
+  pub input : TakesInput i (reads_input reading) (status_of result) in_old in_new
+  pub runs : MayReadInput s i o (CanRefuse reading) old new in_old in_new out_old out_new result
+  pub taken : OnOk result (is_ok reading ≡ true)
+  pub shows : IfNone (output_of reading) (s.seen new ≡ s.seen old)
+
 -- all of it, for words that were read or refused
-settled : {S F O E T : Type 0} (s : shelf.Ghosts S F) (o : sink.Ghosts O) (e : sink.Ghosts E) (words : List (List ℕ))
-    (reading : Result Request WordsFault) (old new : S) (out_old out_new : O) (err_old err_new : E) (result : Result (Unit {0}) Status)
+settled : {S F I O E T : Type 0} (s : shelf.Ghosts S F) (i : source.Ghosts I) (o : sink.Ghosts O) (e : sink.Ghosts E) (words : List (List ℕ))
+    (reading : Result Request WordsFault) (old new : S) (in_old in_new : I) (out_old out_new : O) (err_old err_new : E) (result : Result (Unit {0}) Status)
     (put : Result T PutFault) → reading ≡ request_in words → IfErr reading (CanFail (tool_in words))
     → IfOk reading (λ request. tool_in words ≡ Some (tool_for request)) → IfOk reading (λ request. is_standing (tool_for request) ≡ true)
-    → IfFiles s old (λ files. Does (outcome_for reading files) (status_of result) (o.seen out_old) (o.seen out_new) (s.seen new).files)
-    → IfFiles s old (λ files. LeavesFiles reading files (s.seen new).files)
-    → MayWriteFiles s o (CanRefuse reading) old new out_old out_new result → OnOk result (is_ok reading ≡ true)
-    → KeepsShelf reading (s.seen new ≡ s.seen old)
+    → Answered s i o reading old new in_old in_new out_old out_new result
     → Put (message_for (tool_in words) reading (status_of result)) (e.seen err_old) put (e.seen err_new)
     → SinkCause (e.faults err_old) (e.faults err_new) put
-    → Replies s o e words old new out_old out_new err_old err_new (status_of result)
+    → Replies s i o e words old new in_old in_new out_old out_new err_old err_new (status_of result)
 unfolding reply
-settled s o e words reading old new out_old out_new err_old err_new result put same kinds named built does left runs taken shows message cause =
-    let done : IfFiles s old (λ files. Does (outcome_for (request_in words) files) (status_of result) (o.seen out_old) (o.seen out_new) (s.seen new).files) =
-    λ told. subst (λ r. Does (outcome_for r (s.seen old).files) (status_of result) (o.seen out_old) (o.seen out_new) (s.seen new).files) same (does told) in
-    let refusal = subst (λ r. IfErr result (CanRefuse r)) same runs.refusal in
-    let read = subst (λ r. OnOk result (is_ok r ≡ true)) same taken in
+settled s i o e words reading old new in_old in_new out_old out_new err_old err_new result put same kinds named built answered message cause =
+    let told = subst (λ r. Answered s i o r old new in_old in_new out_old out_new result) same answered in
     let stands = subst (λ r. IfOk r (λ request. is_standing (tool_for request) ≡ true)) same built in
     record {
-      does = done;
-      line = λ told settled. ap (message_of words) ((done told).status settled);
-      stream = λ told. puts_stream (request_in words) (status_of result) _ _ _ _ (done told);
-      left = λ told. subst (λ r. LeavesFiles r (s.seen old).files (s.seen new).files) same (left told);
-      usage = usage_only (request_in words) result stands refusal;
-      refused = λ kind is. inl (usage_always (request_in words) result refusal read kind is);
-      listed = subst (λ r. CanAnswer (tool_in words) r (status_of result)) same (listed (tool_in words) reading result built runs.refusal taken kinds named);
-      cause = status_cause _ _ _ result runs.cause;
-      flushed = done_flushed (request_in words) result _ stands refusal runs.flushed;
+      does = told.does;
+      line = λ files input settled. ap (message_of words) ((told.does files input).status settled);
+      left = told.left;
+      clones = λ files input. clones_done (request_in words) (status_of result) _ _ (to_come (i.seen in_old)) _ _ (told.does files input);
+      stream = λ files. puts_stream (request_in words) (status_of result) _ _ (to_come (i.seen in_old)) (IsTrue (i.seen in_old).is_told) _ _ (told.does files);
+      others = told.others;
+      usage = usage_only (request_in words) result stands told.runs.refusal;
+      refused = λ kind is. inl (usage_always (request_in words) result told.runs.refusal told.taken kind is);
+      listed = subst (λ r. CanAnswer (tool_in words) r (status_of result)) same (listed (tool_in words) reading result built answered.runs.refusal answered.taken kinds named);
+      cause = status_cause _ _ _ result told.runs.cause;
+      flushed = done_flushed (request_in words) result _ stands told.runs.refusal told.runs.flushed;
       message = puts_message _ _ _ _ _ put (subst (λ r. Put (message_for (tool_in words) r (status_of result)) (e.seen err_old) put (e.seen err_new)) same message) cause;
-      told = runs.told;
-      detached = runs.detached;
-      shows = subst (λ r. KeepsShelf r (s.seen new ≡ s.seen old)) same shows;
-      counts = runs.counts;
-      puts = runs.puts;
+      input = told.input;
+      told = told.runs.told;
+      detached = told.runs.detached;
+      shows = told.shows;
+      counts = told.runs.counts;
+      puts = told.runs.puts;
     }
 
 -- ---- no memory for the words
@@ -226,13 +253,25 @@ no_stream : (reading : Result Request WordsFault) (files : Files) (before after 
 no_stream (Ok (request.Cat place kind name file)) files before after = tt
 no_stream other files before after = tt
 
-leaves_same : (reading : Result Request WordsFault) (old new : Files) → new ≡ old → LeavesFiles reading old new
-leaves_same (Ok (request.Make file seed clusters cluster)) old new is = inl is
-leaves_same other old new is = is
+same_left : (reading : Result Request WordsFault) (old new : Files) (input : List ℕ) → new ≡ old → LeavesFiles reading old input new
+same_left (Ok (request.Make file seed clusters cluster)) old new input is = inl is
+same_left (Ok (request.Clone save true no_action force output overwrite source)) old new input is = leaves_same output overwrite _ old new is
+same_left (Ok (request.Clone save false no_action force output overwrite source)) old new input is = leaves_same output overwrite _ old new is
+same_left other old new input is = is
 
-keeps_same : (reading : Result Request WordsFault) (P : Type 0) → P → KeepsShelf reading P
-keeps_same (Ok (request.Make file seed clusters cluster)) P is = tt
-keeps_same other P is = is
+same_shelf : (output : Option (List ℕ)) (P : Type 0) → P → IfNone output P
+same_shelf None P is = is
+same_shelf (Some output) P is = tt
+
+-- an input that isn't read
+same_input : {I : Type 0} (i : source.Ghosts I) (is_read : Bool) (old new : I) → i.seen new ≡ i.seen old → i.faults old ≤ i.faults new
+    → TakesInput i is_read status.NoMemory old new
+same_input i is_read old new same counts = record {
+  kept = λ unread. same;
+  given = record { count = 0; given = same ∙ sym (after_take-none (i.seen old)) };
+  ended = λ reads. tt;
+  counts = counts;
+}
 
 same_line : (tool : Option Tool) (reading : Result Request WordsFault)
     → message_for tool (Err words_fault.NoMemory) status.NoMemory ≡ message_for tool reading status.NoMemory
@@ -240,54 +279,51 @@ unfolding line_for
 same_line tool (Ok request) = refl
 same_line tool (Err fault) = refl
 
-unread : {S F O E T : Type 0} (s : shelf.Ghosts S F) (o : sink.Ghosts O) (e : sink.Ghosts E) (words : List (List ℕ)) (old new : S)
-    (out_old out_new : O) (err_old err_new : E) (result : Result (Unit {0}) Status) (put : Result T PutFault) → status_of result ≡ status.NoMemory
-    → CanFail (tool_in words) words_fault.NoMemory
-    → IfFiles s old (λ files. Does (refused_with status.NoMemory files) (status_of result) (o.seen out_old) (o.seen out_new) (s.seen new).files)
-    → IfFiles s old (λ files. (s.seen new).files ≡ files)
-    → MayWriteFiles s o (CanRefuse (Err words_fault.NoMemory)) old new out_old out_new result → s.seen new ≡ s.seen old
-    → Put (message_for (tool_in words) (Err words_fault.NoMemory) (status_of result)) (e.seen err_old) put (e.seen err_new)
+unread : {S F I O E T : Type 0} (s : shelf.Ghosts S F) (i : source.Ghosts I) (o : sink.Ghosts O) (e : sink.Ghosts E) (words : List (List ℕ)) (old new : S)
+    (in_old in_new : I) (out_old out_new : O) (err_old err_new : E) (result : Result (Unit {0}) Status) (put : Result T PutFault) → status_of result ≡ status.NoMemory
+    → CanFail (tool_in words) words_fault.NoMemory → Answered s i o no_memory old new in_old in_new out_old out_new result
+    → Put (message_for (tool_in words) no_memory (status_of result)) (e.seen err_old) put (e.seen err_new)
     → SinkCause (e.faults err_old) (e.faults err_new) put
-    → Replies s o e words old new out_old out_new err_old err_new status.NoMemory
+    → Replies s i o e words old new in_old in_new out_old out_new err_old err_new status.NoMemory
 unfolding reply
-unread s o e words old new out_old out_new err_old err_new result put is kinds does left runs shows message cause =
-    let said = subst (λ status. Put (message_for (tool_in words) (Err words_fault.NoMemory) status) (e.seen err_old) put (e.seen err_new)) is message in
+unread s i o e words old new in_old in_new out_old out_new err_old err_new result put is kinds answered message cause =
+    let said = subst (λ status. Put (message_for (tool_in words) no_memory status) (e.seen err_old) put (e.seen err_new)) is message in
     record {
-      does = λ told. cut_off _ _ _ _ _ (status_of result) is (does told);
-      line = λ told settled. absurd settled;
+      does = λ told input. cut_off _ _ _ _ _ (status_of result) is (answered.does told (λ reads. absurd cc));
+      line = λ told input settled. absurd settled;
+      left = λ told input. same_left (request_in words) _ _ _ (answered.left told (λ reads. absurd cc));
+      clones = λ told input. no_clones (request_in words) _ _ _ _ _;
       stream = λ told. no_stream (request_in words) _ _ _;
-      left = λ told. leaves_same (request_in words) _ _ (left told);
+      others = λ told. others_same (output_of (request_in words)) _ _ (answered.others told);
       usage = λ kind is. absurd cc;
       refused = λ kind is. inr refl;
       listed = wanting (tool_in words) (request_in words) kinds;
       cause = tt;
       flushed = tt;
       message = puts_message _ _ _ _ _ put (subst (λ line. Put line (e.seen err_old) put (e.seen err_new)) (same_line (tool_in words) (request_in words)) said) cause;
-      told = runs.told;
-      detached = runs.detached;
-      shows = keeps_same (request_in words) _ shows;
-      counts = runs.counts;
-      puts = runs.puts;
+      input = same_input i (reads_input (request_in words)) in_old in_new (answered.input.kept refl) answered.input.counts;
+      told = answered.runs.told;
+      detached = answered.runs.detached;
+      shows = same_shelf (output_of (request_in words)) _ answered.shows;
+      counts = answered.runs.counts;
+      puts = answered.runs.puts;
     }
 
 -- ---- all of it
 
-pub replies : {S F O E T : Type 0} (s : shelf.Ghosts S F) (o : sink.Ghosts O) (e : sink.Ghosts E) (words : List (List ℕ))
-    (reading : Result Request WordsFault) (old new : S) (out_old out_new : O) (err_old err_new : E) (result : Result (Unit {0}) Status)
+pub replies : {S F I O E T : Type 0} (s : shelf.Ghosts S F) (i : source.Ghosts I) (o : sink.Ghosts O) (e : sink.Ghosts E) (words : List (List ℕ))
+    (reading : Result Request WordsFault) (old new : S) (in_old in_new : I) (out_old out_new : O) (err_old err_new : E) (result : Result (Unit {0}) Status)
     (put : Result T PutFault) → Reads (request_in words) reading → IfErr reading (CanFail (tool_in words))
     → IfOk reading (λ request. tool_in words ≡ Some (tool_for request)) → IfOk reading (λ request. is_standing (tool_for request) ≡ true)
-    → IfFiles s old (λ files. Does (outcome_for reading files) (status_of result) (o.seen out_old) (o.seen out_new) (s.seen new).files)
-    → IfFiles s old (λ files. LeavesFiles reading files (s.seen new).files)
-    → MayWriteFiles s o (CanRefuse reading) old new out_old out_new result → OnOk result (is_ok reading ≡ true)
-    → KeepsShelf reading (s.seen new ≡ s.seen old)
+    → Answered s i o reading old new in_old in_new out_old out_new result
     → Put (message_for (tool_in words) reading (status_of result)) (e.seen err_old) put (e.seen err_new)
     → SinkCause (e.faults err_old) (e.faults err_new) put
-    → Replies s o e words old new out_old out_new err_old err_new (status_of result)
-replies s o e words (Ok request) old new out_old out_new err_old err_new result put reads kinds named built does left runs taken shows message cause =
-    settled s o e words (Ok request) old new out_old out_new err_old err_new result put (sym reads) kinds named built does left runs taken shows message cause
-replies s o e words (Err (words_fault.Usage kind)) old new out_old out_new err_old err_new result put reads kinds named built does left runs taken shows message cause =
-    settled s o e words (Err (words_fault.Usage kind)) old new out_old out_new err_old err_new result put (sym (reads tt)) kinds named built does left runs taken shows message cause
-replies s o e words (Err words_fault.NoMemory) old new out_old out_new err_old err_new result put reads kinds named built does left runs taken shows message cause =
-    let is = ends_wanting result runs.refusal taken in
-    subst (λ status. Replies s o e words old new out_old out_new err_old err_new status) (sym is)
-    (unread s o e words old new out_old out_new err_old err_new result put is kinds does left runs shows message cause)
+    → Replies s i o e words old new in_old in_new out_old out_new err_old err_new (status_of result)
+replies s i o e words (Ok request) old new in_old in_new out_old out_new err_old err_new result put reads kinds named built answered message cause =
+    settled s i o e words (Ok request) old new in_old in_new out_old out_new err_old err_new result put (sym reads) kinds named built answered message cause
+replies s i o e words (Err (words_fault.Usage kind)) old new in_old in_new out_old out_new err_old err_new result put reads kinds named built answered message cause =
+    settled s i o e words (Err (words_fault.Usage kind)) old new in_old in_new out_old out_new err_old err_new result put (sym (reads tt)) kinds named built answered message cause
+replies s i o e words (Err words_fault.NoMemory) old new in_old in_new out_old out_new err_old err_new result put reads kinds named built answered message cause =
+    let is = ends_wanting result answered.runs.refusal answered.taken in
+    subst (λ status. Replies s i o e words old new in_old in_new out_old out_new err_old err_new status) (sym is)
+    (unread s i o e words old new in_old in_new out_old out_new err_old err_new result put is kinds answered message cause)

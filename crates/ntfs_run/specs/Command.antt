@@ -1,13 +1,15 @@
 -- What the words of a command line ask of the tools that stand, or how they are refused. The first word names the tool.
 -- The rules are ours.
-use Rattle.std.specs.Prelude.{ℕ, Bool, true, false, List, Option, Result}
+use Rattle.std.specs.Prelude.{◌≡◌, ℕ, Bool, true, false, List, Option, Result}
 use Rattle.std.specs.Option.{ok_or}
 use Rattle.ntfs_base.specs.Frames.{◌>>=◌}
 use Rattle.ntfs_base.specs.declared.refusal.UsageKind.TheVariants as usage
+use Rattle.ntfs_words.specs.Clone.{are_same}
 use Rattle.ntfs_words.specs.Numbers.{only_if}
 use Rattle.ntfs_words.specs.Tool.{tool_of}
 use Rattle.ntfs_words.specs.Words.{asked}
 use Rattle.ntfs_words.specs.declared.request.Request.{Request}
+use Rattle.ntfs_words.specs.declared.request.Request.TheVariants as request
 use Rattle.ntfs_words.specs.declared.request.WordsFault.{WordsFault}
 use Rattle.ntfs_words.specs.declared.request.WordsFault.TheVariants.{Usage}
 use Rattle.ntfs_words.specs.declared.tool.Tool.{Tool}
@@ -20,7 +22,7 @@ is_standing Ls = true
 is_standing Cat = true
 is_standing Cluster = true
 is_standing Cp = false
-is_standing Clone = false
+is_standing Clone = true
 is_standing Resize = false
 is_standing Fix = false
 is_standing Make = true
@@ -35,3 +37,8 @@ unfoldable pub request_in : List (List ℕ) → Result Request WordsFault
 request_in words = do
   tool ← ok_or (tool_in words) (Usage usage.Tool)
   asked words
+
+-- the names of ntfsclone are those of two files
+abbrev pub AreApart : Request → Type 0
+AreApart (request.Clone save restore no_action force output overwrite source) = are_same source output ≡ false
+AreApart other = Unit {0}

@@ -13,6 +13,10 @@ pub mod Cluster
 pub mod Shown
 pub mod Show
 pub mod Make
+pub mod Checked
+pub mod Clone
+pub mod Filling
+pub mod Headline
 pub mod Command
 pub mod Message
 pub mod Reply

@@ -1,7 +1,7 @@
 -- The line that says why a command was refused: the tool's word, a colon and a space, a text, and a line feed. The
 -- texts are this project's own.
 use Rattle.std.specs.Prelude.{◌==◌, ◌&&◌, nat_lt, ℕ, List, [], ◌∷◌, ◌++◌, length, codes, Option, Some, None, Result, Ok}
-use Rattle.std.specs.Prelude.{if◌then◌else◌}
+use Rattle.std.specs.Prelude.{if◌then◌else◌, unwrap_or}
 use Rattle.std.specs.Fmt.{decimal}
 use Rattle.std.specs.Int.{w16, w32, to_be_bytes}
 use Rattle.hex.specs.Hex.{encode_lower}
@@ -129,6 +129,8 @@ file_named (request.Info mft number image) named.Image = image
 file_named (request.Ls all numbers classify recursive system dos path image) named.Image = image
 file_named (request.Cat place kind name image) named.Image = image
 file_named (request.Cluster ask image) named.Image = image
+file_named (request.Clone save restore no_action force output overwrite source) named.Source = unwrap_or source []
+file_named (request.Clone save restore no_action force output overwrite source) named.Output = unwrap_or output []
 file_named (request.Make file seed clusters cluster) named.Output = file
 file_named request other = []
 

@@ -1,27 +1,35 @@
 -- What a tool does: a status, what it puts on the output, and the files afterwards. And how its answer is tied to that.
 -- The words are ours.
-use Rattle.std.specs.Prelude.{◌≡◌, ◌⊎◌, ℕ, true, List, [], Result, Ok, Err, OnOk, IfErr}
+use Rattle.std.specs.Prelude.{◌≡◌, ◌≤◌, ◌⊎◌, ◌||◌, ℕ, Bool, true, false, List, [], Option, Some, None, Result, Ok, Err}
+use Rattle.std.specs.Prelude.{OnOk, IfErr, IsTrue}
+use Rattle.std.specs.Option.{is_none}
+use Rattle.std.specs.Str.{bytes_eq}
 use Rattle.ntfs_base.specs.Causes.{HaveNotFallen, Rose}
 use Rattle.ntfs_base.specs.Frames.{Because, IsSettled, Origin, PutsPrefix, SinkHasNotFallen, content, reading, writing}
-use Rattle.ntfs_base.specs.Frames.{memory}
-use Rattle.ntfs_base.specs.Shelf.{Files}
+use Rattle.ntfs_base.specs.Frames.{memory, must}
+use Rattle.ntfs_base.specs.Shelf.{Files, file_of}
 use Rattle.ntfs_base.specs.Sink.{SinkState, after_put}
 use Rattle.ntfs_base.specs.declared.fault.PutFault.{PutFault}
 use Rattle.ntfs_base.specs.declared.fault.PutFault.TheVariants as put
 use Rattle.ntfs_base.specs.declared.fault.ShelfFault.{ShelfFault}
 use Rattle.ntfs_base.specs.declared.fault.ShelfFault.TheVariants as shelf_fault
-use Rattle.ntfs_base.specs.declared.refusal.Missing.TheVariants as missing
 use Rattle.ntfs_base.specs.declared.refusal.Named.{Named}
-use Rattle.ntfs_base.specs.declared.refusal.Named.TheVariants as named
+use Rattle.ntfs_base.specs.declared.refusal.Rule.TheVariants as rule
 use Rattle.ntfs_base.specs.declared.shelf.Shelf as shelf
 use Rattle.ntfs_base.specs.declared.sink.Sink as sink
+use Rattle.ntfs_base.specs.declared.source.Source as source
 use Rattle.ntfs_boot.specs.declared.volume.ImageFault.{ImageFault}
 use Rattle.ntfs_boot.specs.declared.volume.ImageFault.TheVariants as image
+use Rattle.ntfs_clone.specs.Taking.{HasGiven, to_come}
+use Rattle.ntfs_clone.specs.declared.fault.CloneFault.{CloneFault}
+use Rattle.ntfs_clone.specs.declared.fault.CloneFault.TheVariants as clone
 use Rattle.ntfs_print.specs.Printing.{Printing, end_of}
 use Rattle.ntfs_print.specs.declared.fault.ShowFault.{ShowFault}
 use Rattle.ntfs_print.specs.declared.fault.ShowFault.TheVariants as show
 use Rattle.ntfs_directory.specs.declared.path_fault.PathFault.{PathFault}
 use Rattle.ntfs_directory.specs.declared.path_fault.PathFault.TheVariants as path
+use Rattle.ntfs_rules.specs.declared.fault.CheckFault.{CheckFault}
+use Rattle.ntfs_rules.specs.declared.fault.CheckFault.TheVariants as check
 use Rattle.ntfs_volume.specs.declared.fault.VolumeFault.{VolumeFault}
 use Rattle.ntfs_volume.specs.declared.fault.VolumeFault.TheVariants as volume
 use Rattle.ntfs_words.specs.declared.request.WordsFault.{WordsFault}
@@ -55,6 +63,11 @@ abbrev pub outcome_of : Files → Result Work Status → Outcome
 outcome_of files (Ok work) = record { status = status.Done; output = work.output; files = work.files }
 outcome_of files (Err fault) = refused_with fault files
 
+-- a tool that may leave a file also where it ends with a refusal
+abbrev pub outcome_or : Files → Result Outcome Status → Outcome
+outcome_or files (Ok outcome) = outcome
+outcome_or files (Err fault) = refused_with fault files
+
 -- a tool that only shows puts bytes, also before a refusal
 abbrev pub shows : Files → Printing Status → Outcome
 shows files printing =
@@ -74,7 +87,8 @@ image_status (image.BadGeometry field value) = status.BadGeometry field value
 image_status (image.ImageShort len need) = status.ImageShort len need
 image_status image.ReadFault = status.ReadFault
 
--- of the opening of a volume; the last two, which speak of record 0, come from no opening
+-- of the opening of a volume; the last two, which would say that record 0 tells no clusters of $MFT, come from no
+-- opening
 abbrev pub volume_status : VolumeFault → Status
 volume_status volume.NotNtfs = status.NotNtfs
 volume_status (volume.BadGeometry field value) = status.BadGeometry field value
@@ -83,8 +97,22 @@ volume_status (volume.Damaged rule number) = status.Damaged rule number
 volume_status volume.ReadFault = status.ReadFault
 volume_status volume.WriteFault = status.WriteFault
 volume_status volume.NoMemory = status.NoMemory
-volume_status volume.Absent = status.NotFound (missing.Record 0)
-volume_status volume.NoAttribute = status.NotFound missing.Stream
+volume_status volume.Absent = status.Damaged rule.C3 0
+volume_status volume.NoAttribute = status.Damaged rule.C3 0
+
+-- of the check of a volume
+abbrev pub check_status : CheckFault → Status
+check_status (check.Damaged rule number) = status.Damaged rule number
+check_status check.ReadFault = status.ReadFault
+check_status check.NoMemory = status.NoMemory
+
+-- of a clone image that is read, written or restored
+abbrev pub clone_status : CloneFault → Status
+clone_status (clone.BadClone place) = status.BadClone place
+clone_status (clone.Damaged rule number) = status.Damaged rule number
+clone_status clone.ReadFault = status.ReadFault
+clone_status clone.WriteFault = status.WriteFault
+clone_status clone.NoMemory = status.NoMemory
 
 -- of a call that prints
 abbrev pub show_status : ShowFault → Status
@@ -121,19 +149,23 @@ create_status file shelf_fault.Present = status.Present file
 create_status file shelf_fault.Failed = status.WriteFault
 create_status file shelf_fault.NoMemory = status.NoMemory
 
--- the refusals of an image that is attached
-abbrev pub AttachRefuses : Status → Type 0
-AttachRefuses (status.Absent named.Image) = Unit {0}
-AttachRefuses status.ReadFault = Unit {0}
-AttachRefuses status.NoMemory = Unit {0}
-AttachRefuses other = ⊥
+-- the refusals of a file that is attached
+abbrev pub AttachRefuses : Named → Status → Type 0
+AttachRefuses file (status.Absent other) = other ≡ file
+AttachRefuses file status.ReadFault = Unit {0}
+AttachRefuses file status.NoMemory = Unit {0}
+AttachRefuses file other = ⊥
 
 -- and of a file that is made
-abbrev pub CreateRefuses : Status → Type 0
-CreateRefuses (status.Present named.Output) = Unit {0}
-CreateRefuses status.WriteFault = Unit {0}
-CreateRefuses status.NoMemory = Unit {0}
-CreateRefuses other = ⊥
+abbrev pub CreateRefuses : Named → Bool → Status → Type 0
+CreateRefuses file overwrite (status.Present other) = (other ≡ file) × (overwrite ≡ false)
+CreateRefuses file overwrite status.WriteFault = Unit {0}
+CreateRefuses file overwrite status.NoMemory = Unit {0}
+CreateRefuses file overwrite other = ⊥
+
+-- the file that is meant may be made under a name: there is none of it, or it is overwritten
+abbrev pub may_make : Named → Bool → List ℕ → Files → Result (Unit {0}) Status
+may_make file overwrite name files = must (overwrite || is_none (file_of files name)) (status.Present file)
 
 -- where a refusal comes from
 abbrev pub status_origin : Status → Origin
@@ -175,3 +207,67 @@ pub record MayWriteFiles {S F K : Type 0} (s : shelf.Ghosts S F) (k : sink.Ghost
       (Unit {0}))
   pub refusal : IfErr result has
   pub flushed : OnOk result (k.is_flushed after ≡ true)
+
+-- and may read the input
+pub record MayReadInput {S F I K : Type 0} (s : shelf.Ghosts S F) (i : source.Ghosts I) (k : sink.Ghosts K)
+    (has : Status → Type 0) (old new : S) (from to : I) (before after : K) (result : Result (Unit {0}) Status)
+    : Type 0 where
+  pub told : (s.seen new).is_told ≡ (s.seen old).is_told
+  pub detached : (s.seen new).attached ≡ []
+  pub counts : HaveNotFallen (s.faults old) (s.faults new)
+  pub takes : i.faults from ≤ i.faults to
+  pub puts : SinkHasNotFallen (k.faults before) (k.faults after)
+  pub cause : IfErr result (λ fault. Because (status_origin fault)
+      ((Rose (s.faults old).reads (s.faults new).reads) ⊎ (Rose (i.faults from) (i.faults to)))
+      ((Rose (s.faults old).writes (s.faults new).writes) ⊎ (Rose (k.faults before).failures (k.faults after).failures))
+      (Unit {0}))
+  pub refusal : IfErr result has
+  pub flushed : OnOk result (k.is_flushed after ≡ true)
+
+-- ---- the input
+
+-- where the work was done
+abbrev pub IfDone : Status → Type 0 → Type 0
+IfDone status.Done is = is
+IfDone other is = Unit {0}
+
+-- of the bytes that an input has still to give, where they are told; where they aren't read, nothing need be told
+abbrev pub IfInput : {I : Type 0} → source.Ghosts I → Bool → I → (List ℕ → Type 0) → Type 0
+IfInput i reads input is = (reads ≡ true → IsTrue (i.seen input).is_told) → is (to_come (i.seen input))
+
+-- what a call takes of an input, which it reads or not: one that isn't read stays as it was; else a front of what it has
+-- still to give is given, and all of it where the work was done
+pub record TakesInput {I : Type 0} (i : source.Ghosts I) (is_read : Bool) (result : Status) (old new : I) : Type 0 where
+  pub kept : is_read ≡ false → i.seen new ≡ i.seen old
+  pub given : HasGiven (i.seen old) (i.seen new)
+  pub ended : is_read ≡ true → IfDone result (IsTrue (i.seen old).is_told → to_come (i.seen new) ≡ [])
+  pub counts : i.faults old ≤ i.faults new
+
+-- ---- files that are made
+
+-- no file differs but the one that is named
+abbrev pub KeepsOthers : Option (List ℕ) → Files → Files → Type 0
+KeepsOthers None old new = new ≡ old
+KeepsOthers (Some output) old new = (name : List ℕ) → bytes_eq name output ≡ false → file_of new name ≡ file_of old name
+
+-- of a shelf for which no file may be made, also of one that doesn't tell its files
+abbrev pub IfNone : Option (List ℕ) → Type 0 → Type 0
+IfNone None unchanged = unchanged
+IfNone (Some output) unchanged = Unit {0}
+
+-- status and files are those of the outcome, unless the work was cut off
+pub record Ends (outcome : Outcome) (result : Status) (left : Files) : Type 0 where
+  pub status : IsSettled (status_origin result) → result ≡ outcome.status
+  pub files : IsSettled (status_origin result) → left ≡ outcome.files
+
+-- a call over a shelf that releases each file that it makes: names that were attached stay so, and a fault has its cause,
+-- which may also be another one of a read
+pub record MakesFiles {S F : Type 0} (s : shelf.Ghosts S F) (has : Status → Type 0) (old new : S) (read : Type 0)
+    (result : Result (Unit {0}) Status) : Type 0 where
+  pub told : (s.seen new).is_told ≡ (s.seen old).is_told
+  pub attached : (s.seen new).attached ≡ (s.seen old).attached
+  pub counts : HaveNotFallen (s.faults old) (s.faults new)
+  pub cause : IfErr result (λ fault. Because (status_origin fault)
+      ((Rose (s.faults old).reads (s.faults new).reads) ⊎ read)
+      (Rose (s.faults old).writes (s.faults new).writes) (Unit {0}))
+  pub refusal : IfErr result has

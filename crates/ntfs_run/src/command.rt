@@ -2,10 +2,11 @@
 ghost use Rattle.std.specs.Prelude.{◌≡◌, [], true, IfOk, OnOk, is_ok, map, string_bytes};
 ghost use Rattle.ntfs_base.specs.Frames.{IfFiles};
 ghost use Rattle.ntfs_words.specs.Answers.{HasRanges, tool_for};
-ghost use Rattle.ntfs_run.specs.Command.{is_standing};
-ghost use Rattle.ntfs_run.specs.Outcome.{Does, MayWriteFiles, status_of};
-ghost use Rattle.ntfs_run.specs.Reply.{KeepsInput, LeavesFiles, CanRefuse, Replies, KeepsShelf, outcome_for};
+ghost use Rattle.ntfs_run.specs.Command.{AreApart, is_standing};
+ghost use Rattle.ntfs_run.specs.Outcome.{Does, IfInput, IfNone, KeepsOthers, MayReadInput, TakesInput, status_of};
+ghost use Rattle.ntfs_run.specs.Reply.{CanRefuse, LeavesFiles, Replies, outcome_for, output_of, reads_input};
 
+use crate::clone::{RestoreRequest, SaveRequest, restore_clone, save_volume};
 use crate::make::{MakeRequest, make_file};
 use crate::message::put_message;
 use crate::request::{read_request, tool_in};
@@ -29,32 +30,39 @@ pub fn run<S: Shelf, I: Source, O: Sink, E: Sink>(
     err: &mut E,
 ) -> Status
     requires { (S.seen shelf.old).attached ≡ [] }
-    ensures replies { Replies S.Shelf O.Sink E.Sink (map string_bytes words.now) shelf.old shelf.new out.old out.new
-        err.old err.new result }
-    ensures input { KeepsInput I.Source input.old input.new }
+    ensures { Replies S.Shelf I.Source O.Sink E.Sink (map string_bytes words.now) shelf.old shelf.new
+        input.old input.new out.old out.new err.old err.new result }
 {
     let request = read_request(alloc, words);
-    let status = status_of(answer(alloc, &request, shelf, out));
+    let status = status_of(answer(alloc, &request, shelf, input, out));
     let _ = put_message(tool_in(words), &request, &status, err);
     status
 }
 
 /// What the tool of a request answers.
-fn answer<S: Shelf, O: Sink>(
+fn answer<S: Shelf, I: Source, O: Sink>(
     alloc: Global,
     request: &Result<Request, WordsFault>,
     shelf: &mut S,
+    input: &mut I,
     out: &mut O,
 ) -> Result<(), Status>
     requires attached { (S.seen shelf.old).attached ≡ [] }
     requires ranges { IfOk request.now HasRanges }
     requires stands { IfOk request.now (λ request. is_standing (tool_for request) ≡ true) }
-    ensures does { IfFiles S.Shelf shelf.old (λ files. Does (outcome_for request.now files)
-        (status_of result) (O.seen out.old) (O.seen out.new) (S.seen shelf.new).files) }
-    ensures left { IfFiles S.Shelf shelf.old (λ files. LeavesFiles request.now files (S.seen shelf.new).files) }
-    ensures runs { MayWriteFiles S.Shelf O.Sink (CanRefuse request.now) shelf.old shelf.new out.old out.new result }
+    requires apart { IfOk request.now AreApart }
+    ensures does { IfFiles S.Shelf shelf.old (λ files. IfInput I.Source (reads_input request.now) input.old (λ bytes.
+        Does (outcome_for request.now files bytes) (status_of result) (O.seen out.old) (O.seen out.new)
+        (S.seen shelf.new).files)) }
+    ensures left { IfFiles S.Shelf shelf.old (λ files. IfInput I.Source (reads_input request.now) input.old (λ bytes.
+        LeavesFiles request.now files bytes (S.seen shelf.new).files)) }
+    ensures others { IfFiles S.Shelf shelf.old (λ files.
+        KeepsOthers (output_of request.now) files (S.seen shelf.new).files) }
+    ensures input { TakesInput I.Source (reads_input request.now) (status_of result) input.old input.new }
+    ensures runs { MayReadInput S.Shelf I.Source O.Sink (CanRefuse request.now) shelf.old shelf.new input.old input.new
+        out.old out.new result }
     ensures taken { OnOk result (is_ok request.now ≡ true) }
-    ensures shows { KeepsShelf request.now (S.seen shelf.new ≡ S.seen shelf.old) }
+    ensures shows { IfNone (output_of request.now) (S.seen shelf.new ≡ S.seen shelf.old) }
 {
     match request {
         Err(fault) => Err(Status::from(*fault)),
@@ -69,6 +77,41 @@ fn answer<S: Shelf, O: Sink>(
         }
         Ok(request @ Request::Cluster { image, .. }) => {
             show(alloc, request, image.as_str(), shelf, out)
+        }
+        Ok(
+            Request::Clone {
+                restore: true,
+                output,
+                overwrite,
+                source,
+                ..
+            },
+        ) => {
+            let request = RestoreRequest {
+                output,
+                overwrite: *overwrite,
+                source,
+            };
+            restore_clone(alloc, &request, shelf, input, out)
+        }
+        Ok(
+            Request::Clone {
+                save,
+                force,
+                output,
+                overwrite,
+                source,
+                ..
+            },
+        ) => {
+            let request = SaveRequest {
+                save: *save,
+                force: *force,
+                output,
+                overwrite: *overwrite,
+                source,
+            };
+            save_volume(alloc, &request, shelf, out)
         }
         Ok(
             Request::Make {

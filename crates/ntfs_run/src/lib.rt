@@ -3,8 +3,11 @@
 #![tactic(auto)]
 
 mod cat;
+mod checked;
+mod clone;
 mod cluster;
 mod command;
+mod copying;
 mod info;
 mod ls;
 mod make;
@@ -12,6 +15,8 @@ mod message;
 mod outside;
 mod place;
 mod request;
+mod restoring;
+mod saving;
 mod show;
 mod status;
 

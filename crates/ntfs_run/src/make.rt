@@ -6,9 +6,9 @@ ghost use Rattle.ntfs_make.specs.Shape.{IsShape, shape_of};
 ghost use Rattle.ntfs_run.specs.Make.{FillRefuses, IsPart, LeavesFile, MakeRefuses, make_work};
 ghost use Rattle.ntfs_run.specs.Outcome.{Does, MayWriteFiles, outcome_of, status_of, status_origin};
 
-use crate::outside::{create_output, flush};
+use crate::outside::{create_file, flush};
 use crate::status::Status;
-use ntfs_base::{HostFile, Shelf, Sink};
+use ntfs_base::{HostFile, Named, Shelf, Sink};
 use ntfs_make::make;
 use std::alloc::Global;
 
@@ -39,7 +39,7 @@ pub fn make_file<S: Shelf, O: Sink>(
     ensures runs { MayWriteFiles S.Shelf O.Sink MakeRefuses shelf.old shelf.new out.old out.new result }
 {
     flush(out)?;
-    let mut file = create_output(request.file, shelf)?;
+    let mut file = create_file(Named::Output, request.file, false, shelf)?;
     let result = fill(alloc, request, &mut file);
     shelf.release(file);
     result

@@ -1,5 +1,5 @@
 //! The line that says why a command was refused.
-ghost use Rattle.std.specs.Prelude.{◌≡◌, ◌≤◌, ◌+◌, ◌++◌, ◌∷◌, length, codes};
+ghost use Rattle.std.specs.Prelude.{◌≡◌, ◌≤◌, ◌+◌, ◌++◌, ◌∷◌, [], length, codes, unwrap_or};
 ghost use Rattle.hex.specs.Hex.{encode_lower};
 ghost use Rattle.std.specs.Int.{w16, w32, to_be_bytes};
 ghost use Rattle.ntfs_base.specs.Sink.{Put};
@@ -10,7 +10,7 @@ ghost use Rattle.ntfs_run.specs.Message.{type_text, usage_text, without_zeros};
 
 use crate::status::Status;
 use ntfs_base::{Lack, Line, Missing, Named, PutFault, Rule, Sink, UsageKind};
-use ntfs_words::{Request, Tool, WordsFault, tool_name};
+use ntfs_words::{Request, Text, Tool, WordsFault, tool_name};
 
 /// Appends the text of a status, up to the name of a file.
 #[tactic(auto, unfolding(crate::specs::Message::status_text))]
@@ -319,7 +319,19 @@ fn file_named<'a>(request: &'a Request, file: Named) -> &'a str
         (Request::Ls { image, .. }, Named::Image) => image.as_str(),
         (Request::Cat { image, .. }, Named::Image) => image.as_str(),
         (Request::Cluster { image, .. }, Named::Image) => image.as_str(),
+        (Request::Clone { source, .. }, Named::Source) => text_or_none(source),
+        (Request::Clone { output, .. }, Named::Output) => text_or_none(output),
         (Request::Make { file, .. }, Named::Output) => file.as_str(),
         _ => "",
+    }
+}
+
+/// A text, or an empty one where there is none.
+fn text_or_none(text: &Option<Text>) -> &str
+    ensures { result.now ≡ unwrap_or text.entry.now [] }
+{
+    match text {
+        None => "",
+        Some(text) => text.as_str(),
     }
 }

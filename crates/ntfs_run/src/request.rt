@@ -2,7 +2,7 @@
 ghost use Rattle.std.specs.Prelude.{◌≡◌, IfErr, IfOk, Some, map, string_bytes, true};
 ghost use Rattle.ntfs_words.specs.Answers.{CanFail, HasRanges, tool_for};
 ghost use Rattle.ntfs_words.specs.Line.{Reads};
-ghost use Rattle.ntfs_run.specs.Command.{is_standing, request_in, tool_in};
+ghost use Rattle.ntfs_run.specs.Command.{AreApart, is_standing, request_in, tool_in};
 
 use ntfs_base::UsageKind;
 use ntfs_words::{Request, Tool, WordsFault, read_words, tool_of};
@@ -26,7 +26,7 @@ fn is_standing(tool: Tool) -> bool
         Tool::Cat => true,
         Tool::Cluster => true,
         Tool::Cp => false,
-        Tool::Clone => false,
+        Tool::Clone => true,
         Tool::Resize => false,
         Tool::Fix => false,
         Tool::Make => true,
@@ -42,6 +42,7 @@ pub fn read_request(alloc: Global, words: &[String]) -> Result<Request, WordsFau
     ensures kinds { IfErr result (CanFail (tool_in (map string_bytes words.now))) }
     ensures tool { IfOk result (λ request. tool_in (map string_bytes words.now) ≡ Some (tool_for request)) }
     ensures stands { IfOk result (λ request. is_standing (tool_for request) ≡ true) }
+    ensures apart { IfOk result AreApart }
 {
     if tool_in(words).is_none() {
         return Err(WordsFault::Usage {

@@ -1,5 +1,7 @@
 use ntfs_base::{Lack, Missing, Named, PutFault, Rule, UsageKind};
 use ntfs_boot::ImageFault;
+use ntfs_check::CheckFault;
+use ntfs_clone::CloneFault;
 use ntfs_directory::PathFault;
 use ntfs_make::MakeFault;
 use ntfs_show::ShowFault;
@@ -142,11 +144,9 @@ impl From<VolumeFault> for Status {
             VolumeFault::ReadFault => Status::ReadFault,
             VolumeFault::WriteFault => Status::WriteFault,
             VolumeFault::NoMemory => Status::NoMemory,
-            VolumeFault::Absent => Status::NotFound {
-                what: Missing::Record { number: 0 },
-            },
-            VolumeFault::NoAttribute => Status::NotFound {
-                what: Missing::Stream,
+            VolumeFault::Absent | VolumeFault::NoAttribute => Status::Damaged {
+                rule: Rule::C3,
+                number: 0,
             },
         }
     }
@@ -210,6 +210,38 @@ impl From<MakeFault> for Status {
         match fault {
             MakeFault::WriteFault => Status::WriteFault,
             MakeFault::NoMemory => Status::NoMemory,
+        }
+    }
+}
+
+impl From<CheckFault> for Status {
+    ghost use Rattle.std.specs.Prelude.{◌≡◌};
+    ghost use Rattle.ntfs_run.specs.Outcome.{check_status};
+
+    ghost from_gives = { λ fault status. status ≡ check_status fault };
+
+    fn from(fault: CheckFault) -> Status {
+        match fault {
+            CheckFault::Damaged { rule, number } => Status::Damaged { rule, number },
+            CheckFault::ReadFault => Status::ReadFault,
+            CheckFault::NoMemory => Status::NoMemory,
+        }
+    }
+}
+
+impl From<CloneFault> for Status {
+    ghost use Rattle.std.specs.Prelude.{◌≡◌};
+    ghost use Rattle.ntfs_run.specs.Outcome.{clone_status};
+
+    ghost from_gives = { λ fault status. status ≡ clone_status fault };
+
+    fn from(fault: CloneFault) -> Status {
+        match fault {
+            CloneFault::BadClone { place } => Status::BadClone { place },
+            CloneFault::Damaged { rule, number } => Status::Damaged { rule, number },
+            CloneFault::ReadFault => Status::ReadFault,
+            CloneFault::WriteFault => Status::WriteFault,
+            CloneFault::NoMemory => Status::NoMemory,
         }
     }
 }

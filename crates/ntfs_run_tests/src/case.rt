@@ -149,8 +149,23 @@ pub fn run_words(
     requires { (seen_mem_shelf shelf.old.places.items shelf.old.attached.items).attached ≡ [] }
     ensures { (seen_mem_shelf shelf.new.places.items shelf.new.attached.items).attached ≡ [] }
 {
+    run_words_from(alloc, words, Vec::new(alloc), shelf, out, err)
+}
+
+/// Runs words over a shelf, an input that gives these bytes, and these sinks.
+pub fn run_words_from(
+    alloc: Global,
+    words: &[&str],
+    input: Vec<u8>,
+    shelf: &mut MemShelf,
+    out: &mut MemSink,
+    err: &mut MemSink,
+) -> Result<Status, AllocError>
+    requires { (seen_mem_shelf shelf.old.places.items shelf.old.attached.items).attached ≡ [] }
+    ensures { (seen_mem_shelf shelf.new.places.items shelf.new.attached.items).attached ≡ [] }
+{
     let words = texts(alloc, words)?;
-    let mut input = MemSource::new(alloc, Vec::new(alloc));
+    let mut input = MemSource::new(alloc, input);
     Ok(run(alloc, &words, shelf, &mut input, out, err))
 }
 

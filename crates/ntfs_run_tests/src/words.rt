@@ -100,7 +100,6 @@ fn words_that_name_no_tool_are_refused(rt: HostRuntime) -> Result<(), Fail> {
         tool.with_words(&["ntfsinf\u{F6}", "-m", "v"]),
         tool.with_words(&["ntfscp", "v", "s", "/f"]),
         tool.with_words(&["ntfscp"]),
-        tool.with_words(&["ntfsclone", "-s", "v"]),
         tool.with_words(&["ntfsresize", "-i", "v"]),
         tool.with_words(&["ntfsfix", "v"]),
         tool.with_words(&["ntfstrial", "0", "t"]),

@@ -3,7 +3,7 @@
 
 mod arguments;
 
-ghost use Rattle.std.specs.Prelude.{◌≡◌, Some};
+ghost use Rattle.std.specs.Prelude.{◌≡◌, ◌⊎◌, Some};
 
 use arguments::arguments;
 use ntfs_base::Sink;
@@ -50,10 +50,11 @@ fn exit_status(rt: &HostRuntime) -> u8 {
 /// What the tool that the first word names does with files. Where it names none, nothing is done.
 fn access_of(tool: Option<Tool>) -> Access
     ensures makes { tool ≡ Some Tool.Make → result ≡ Access.ReadWrite }
-    ensures shows { result ≡ Access.ReadWrite → tool ≡ Some Tool.Make }
+    ensures clones { tool ≡ Some Tool.Clone → result ≡ Access.ReadWrite }
+    ensures shows { result ≡ Access.ReadWrite → (tool ≡ Some Tool.Make) ⊎ (tool ≡ Some Tool.Clone) }
 {
     match tool {
-        Some(Tool::Make) => Access::ReadWrite,
+        Some(Tool::Make | Tool::Clone) => Access::ReadWrite,
         _ => Access::ReadOnly,
     }
 }

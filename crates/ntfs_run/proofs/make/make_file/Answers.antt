@@ -28,7 +28,7 @@ returns-clause-does g c told =
     let inside : IsTrue (g.S.File.Image.seen c.in_ok-file.file).is_told = c.in_ok-file.ensures.file.told ∙ told in
     does_made c.args.request.now.file.now c.args.request.now.seed c.args.request.now.clusters c.args.request.now.cluster _ _ _ _ _ c.fill-result.result
     c.in_ok-flush.ensures.seen (c.in_ok-file.ensures.gives told)
-    (released_files g.S.Shelf g.S.File.Image c.args.shelf.now c.create_output.new.shelf c.release.new.self c.in_ok-file.file c.fill-result.new.file c.args.request.now.file.now
+    (released_files g.S.Shelf g.S.File.Image c.args.shelf.now c.create_file.new.shelf c.release.new.self c.in_ok-file.file c.fill-result.new.file c.args.request.now.file.now
     c.in_ok-file.ensures.file c.in_ok-file.ensures.created c.fill-result.ensures.name c.release.ensures.released told)
     (c.fill-result.ensures.made inside) c.fill-result.ensures.refusal
 
@@ -38,13 +38,13 @@ returns-clause-left g c told =
     inr (
       (g.S.File.Image.seen c.fill-result.new.file).content,
       c.in_ok-file.ensures.file.fresh refl told,
-      released_files g.S.Shelf g.S.File.Image c.args.shelf.now c.create_output.new.shelf c.release.new.self c.in_ok-file.file c.fill-result.new.file c.args.request.now.file.now
+      released_files g.S.Shelf g.S.File.Image c.args.shelf.now c.create_file.new.shelf c.release.new.self c.in_ok-file.file c.fill-result.new.file c.args.request.now.file.now
           c.in_ok-file.ensures.file c.in_ok-file.ensures.created c.fill-result.ensures.name c.release.ensures.released told,
       c.fill-result.ensures.left inside,
     )
 
 pub returns-clause-runs : goal.returns-clause-runs
-returns-clause-runs g c = runs_made g.S.Shelf g.S.File.Image g.O.Sink c.args.shelf.now c.create_output.new.shelf c.release.new.self c.in_ok-file.file c.fill-result.new.file _ _
+returns-clause-runs g c = runs_made g.S.Shelf g.S.File.Image g.O.Sink c.args.shelf.now c.create_file.new.shelf c.release.new.self c.in_ok-file.file c.fill-result.new.file _ _
     c.args.request.now.file.now c.fill-result.result c.requires.attached c.in_ok-file.ensures.file c.in_ok-file.ensures.created c.in_ok-file.ensures.counts
     c.fill-result.ensures.name c.fill-result.ensures.writes c.fill-result.ensures.refusal c.in_ok-flush.ensures.frame.puts c.in_ok-flush.ensures.flushed
     c.release.ensures.released c.release.ensures.writes c.release.ensures.counts
