@@ -17,7 +17,7 @@ import subprocess
 import sys
 import tempfile
 
-from measure import QUIET, RECORD, built_program, has_stock_tools, least, make_stock, refixed, unfixed
+from measure import QUIET, RECORD, built_program, calls_of, has_stock_tools, least, make_stock, refixed, unfixed
 
 STREAM = 256 << 20
 RUNS = 10_000
@@ -179,15 +179,6 @@ def stock_volume(folder, cluster, content):
     return volume, {row.split()[1]: int(row.split()[0]) for row in rows if len(row.split()) == 2}
 
 
-def calls(words):
-    if shutil.which("strace") is None:
-        return "not counted"
-    with tempfile.NamedTemporaryFile() as log:
-        quiet(["strace", "-f", "-c", "-o", log.name, *words])
-        rows = pathlib.Path(log.name).read_text().splitlines()
-    return next(row.split()[3] if len(row.split()) > 4 else row.split()[2] for row in rows if row.endswith("total"))
-
-
 def memory(words):
     """The peak memory in KiB."""
     if shutil.which("/usr/bin/time") is None:
@@ -206,7 +197,7 @@ def measure(tools, content, out):
         plain.setdefault("nothing", nothing)
         print(
             f"  {name:14} to a file {file:.3f} s (ratio {file / plain['file']:.2f}), to nothing {nothing:.3f} s "
-            f"(ratio {nothing / plain['nothing']:.2f}), system calls {calls(words)}, peak {memory(words)} KiB",
+            f"(ratio {nothing / plain['nothing']:.2f}), system calls {calls_of(words)}, peak {memory(words)} KiB",
             flush=True,
         )
 

@@ -3,6 +3,7 @@
 import contextlib
 import pathlib
 import re
+import resource
 import shutil
 import struct
 import subprocess
@@ -17,12 +18,11 @@ QUIET = {"check": True, "stdout": subprocess.DEVNULL, "stderr": subprocess.DEVNU
 
 
 @contextlib.contextmanager
-def program_over(crates, name, program, uses=None, proofs=None, words=()):
-    """The path of a program over some crates of this repository, and the rounds that it printed when it ran with these words.
+def crate_over(crates, name, program, uses=None, proofs=None):
+    """The folder of a program over some crates of this repository, in a temporary folder beside copies of them.
 
-    The program is proved, built and run in a temporary folder, beside copies of the crates, which are named lowest first. It
-    uses the last of them, or those that are named as such, and byteorder. `proofs` has the invariants of its functions by their
-    names. A round is a line of numbers that ends with `true`; one that ends with `false` stops the measure.
+    The crates are named lowest first. The program uses the last of them, or those that are named as such, and byteorder. `proofs`
+    has the invariants of its functions by their names.
     """
     needs = {line.split(":")[0]: line for line in (TOP / "crates.txt").read_text().splitlines() if ":" in line}
     with tempfile.TemporaryDirectory() as folder:
@@ -36,12 +36,34 @@ def program_over(crates, name, program, uses=None, proofs=None, words=()):
             (own / file).write_text(text)
         lines = [needs[crate] for crate in crates] + [f"{name}: {' '.join(uses or crates[-1:])} byteorder"]
         (top / "crates.txt").write_text("\n".join(lines) + "\n")
+        yield own
+
+
+@contextlib.contextmanager
+def program_over(crates, name, program, uses=None, proofs=None, words=()):
+    """The path of such a program, and the rounds that it printed when it ran with these words.
+
+    `rt run` proves it, builds it by LLVM with all optimisation, and runs it. A round is a line of numbers that ends with `true`;
+    one that ends with `false` stops the measure.
+    """
+    with crate_over(crates, name, program, uses, proofs) as own:
         command = ["rt", "run"] + (["--", *(str(word) for word in words)] if words else [])
         done = subprocess.run(command, cwd=own, capture_output=True, text=True)
         rounds = re.findall(r"^(\d+(?: \d+)*) (true|false)$", done.stdout, re.MULTILINE)
         if not rounds or any(right != "true" for _, right in rounds):
             raise SystemExit(done.stdout + done.stderr)
         yield own / "out" / name, [tuple(int(number) for number in numbers.split()) for numbers, _ in rounds]
+
+
+def tried_over(crates, name, program, words, uses=None):
+    """The lines that such a program prints with these words under `rt try`, which proves nothing, and stops at an index out of
+    bounds, at a number that wraps and at wrong memory."""
+    with crate_over(crates, name, program, uses) as own:
+        command = ["rt", "try", "--seconds", "3600", "--", *(str(word) for word in words)]
+        done = subprocess.run(command, cwd=own, capture_output=True, text=True)
+        if done.returncode:
+            raise SystemExit(done.stdout + done.stderr)
+        return done.stdout.splitlines()
 
 
 def rounds_of(*arguments, **named):
@@ -85,7 +107,33 @@ def least(words, output="/dev/null", ready=lambda: None):
     return min(times)
 
 
+def spent_in_turn(commands, rounds, ready=lambda name: None):
+    """The least time and the least processor time in seconds of some commands by their names. The commands are run in turn, so that
+    what else the machine does falls on all of them. `ready` is called before each."""
+    spent = {name: (float("inf"), float("inf")) for name in commands}
+    for _ in range(rounds):
+        for name, words in commands.items():
+            ready(name)
+            before, start = resource.getrusage(resource.RUSAGE_CHILDREN), time.perf_counter()
+            subprocess.run([str(word) for word in words], **QUIET)
+            wall, after = time.perf_counter() - start, resource.getrusage(resource.RUSAGE_CHILDREN)
+            processor = after.ru_utime + after.ru_stime - before.ru_utime - before.ru_stime
+            spent[name] = min(spent[name][0], wall), min(spent[name][1], processor)
+    return spent
+
+
 # ---- volumes
+
+def write_sparse(path, image):
+    """Writes bytes into a new file, with holes where a piece of 4,096 bytes is zeros."""
+    with open(path, "wb") as file:
+        file.truncate(len(image))
+        for place in range(0, len(image), 4096):
+            piece = image[place:place + 4096]
+            if piece.count(0) < len(piece):
+                file.seek(place)
+                file.write(piece)
+
 
 def refixed(block):
     """A record or an index block with its strides' last words saved in the array, and the array's number in their place."""
@@ -149,10 +197,10 @@ def stock_number(volume, name):
 
 
 @contextlib.contextmanager
-def mounted(volume):
-    """A folder in which the stock driver shows a volume. It needs ntfs-3g, and the right to mount."""
+def mounted(volume, options=""):
+    """A folder in which the stock driver shows a volume, with options of its own. It needs ntfs-3g, and the right to mount."""
     with tempfile.TemporaryDirectory() as folder:
-        subprocess.run(["ntfs-3g", volume, folder], **QUIET)
+        subprocess.run(["ntfs-3g", *(["-o", options] if options else []), volume, folder], **QUIET)
         try:
             yield pathlib.Path(folder)
         finally:
@@ -182,6 +230,16 @@ def timed(words):
         return least(words)
     except subprocess.CalledProcessError:
         return None
+
+
+def calls_of(words):
+    """How many system calls a command makes, with those of starting it, where strace is installed."""
+    if shutil.which("strace") is None:
+        return "not counted"
+    with tempfile.NamedTemporaryFile() as log:
+        subprocess.run(["strace", "-f", "-c", "-o", log.name, *(str(word) for word in words)], **QUIET)
+        rows = pathlib.Path(log.name).read_text().splitlines()
+    return next(row.split()[3] if len(row.split()) > 4 else row.split()[2] for row in rows if row.endswith("total"))
 
 
 def peak_of(words):

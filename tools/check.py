@@ -457,6 +457,7 @@ class Volume:
         self.map = None
         self.records = {}  # live records by number, ascending
         self.owned = None  # a byte for each cluster
+        self.told = None  # by base record the live records that tell it as their base, once all records are read
 
     def base_records(self):
         """Number and record of each live base record, ascending."""
@@ -472,8 +473,13 @@ class Volume:
 
     def extensions(self, base):
         """Numbers of the live records whose base matches that record, ascending."""
+        if self.told is None:
+            self.told = {}
+            for r, record in self.records.items():
+                if record.base != 0:
+                    self.told.setdefault(record.base & LIMIT - 1, []).append(r)
         sequence = self.records[base].sequence
-        return [r for r, record in self.records.items() if record.base != 0 and matches(record.base, base, sequence)]
+        return [r for r in self.told.get(base, []) if matches(self.records[r].base, base, sequence)]
 
 
 class Stream(NamedTuple):
@@ -590,8 +596,8 @@ def walk_index(volume, directory):
     """The entries of the directory's $I30 in order: a child's entries before an entry, the end entry's child last."""
     geometry = volume.geometry
     root = gather(volume, directory, INDEX_ROOT, I30)
-    if root is None:
-        raise Fault("no index root")
+    if root is None or not root.resident:
+        raise Fault("no index root in the record")
     allocation = gather(volume, directory, INDEX_ALLOCATION, I30)
     unit = geometry.cluster if geometry.cluster <= geometry.block else 512
     met, walked = set(), []
@@ -617,7 +623,7 @@ def walk_index(volume, directory):
             if entry is not None:
                 walked.append(entry)
 
-    value = stream_bytes(volume, root, 0, root.size)
+    value = root.value
     if len(value) < 32 or (number(value, 0, 4), number(value, 4, 4), number(value, 8, 4)) != (FILE_NAME, 1, geometry.block):
         raise Fault("bad index root")
     walk(value[0x10:], 1)

@@ -1,14 +1,23 @@
 #!/usr/bin/env python3
 """Has the crates judge damaged volumes, and compares their verdicts with what was expected by hand (tools/breaks.py), and, for
-random damage, with what the independent reading of the rules says (tools/check.py).
+random damage (tools/random_damage.py), with what the independent reading of the rules says (tools/check.py).
 
-    try_check.py [-v] [--random N] [WORD ..]     with WORDs only damages whose name has them all are tried
+    try_check.py [WORD ..]      the damages of the table, or those alone whose name has all WORDs
+    try_check.py --made N       N made volumes with random damage
+    try_check.py --stock N      N stock volumes with random damage; it needs ntfs-3g and the right to mount
 
-It writes a program over the crates into a temporary folder, which `rt run` proves and builds there, beside copies of the crates,
-and hands it volumes as files, some at a time. The repository is only read. It ends with 1 where a verdict differs.
+With -v each verdict is printed, and --from M begins with the random damage of number M. It writes a program over the crates into a
+temporary folder, beside copies of the crates, and the volumes as sparse files, and `rt try` builds the program without a proof and
+runs it once on all of them. With --program FILE one is run that was built before (bench/rules.py keeps one where it is told to),
+which is faster by far, since `rt try` looks at each access to memory. The repository is only read. It ends with 1 where a verdict
+differs.
 """
+import argparse
+import collections
+import itertools
 import pathlib
-import random
+import re
+import resource
 import subprocess
 import sys
 import tempfile
@@ -18,9 +27,10 @@ TOP = pathlib.Path(__file__).resolve().parent.parent
 sys.path[:0] = [str(TOP / "bench"), str(TOP / "tools")]
 import breaks
 import check
-from measure import program_over
+import random_damage
+from measure import tried_over, write_sparse
 
-AT_ONCE = 32
+AT_ONCE = 200
 USES = ["ntfs_base", "ntfs_bitmap", "ntfs_host", "ntfs_volume", "ntfs_check"]
 
 PROGRAM = """\
@@ -35,6 +45,7 @@ use std::alloc::Global;
 use std::env;
 use std::io;
 
+ghost use Rattle.std.specs.Prelude.{◌≡◌};
 ghost use Rattle.ntfs_volume.specs.Opened.{HasClusters};
 
 fn rule_number(rule: Rule) -> u8 {
@@ -45,6 +56,7 @@ RULES
 
 fn tell_table<G: Image>(rt: &HostRuntime, alloc: Global, image: &mut G, table: &Table) -> io::Result<()>
     requires { HasClusters (G.seen image.old).size table.now }
+    ensures { G.seen image.new ≡ G.seen image.old }
 {
     match judge(alloc, image, table) {
         Ok(owned) => println!(rt; "accepted {}", owned.count_below(table.geometry().clusters)),
@@ -56,7 +68,9 @@ fn tell_table<G: Image>(rt: &HostRuntime, alloc: Global, image: &mut G, table: &
     }
 }
 
-fn tell<G: Image>(rt: &HostRuntime, alloc: Global, image: &mut G) -> io::Result<()> {
+fn tell<G: Image>(rt: &HostRuntime, alloc: Global, image: &mut G) -> io::Result<()>
+    ensures { G.seen image.new ≡ G.seen image.old }
+{
     match read_table(alloc, image) {
         Ok(table) => tell_table(rt, alloc, image, &table),
         Err(VolumeFault::NotNtfs) => println!(rt; "not an NTFS volume"),
@@ -71,17 +85,19 @@ fn tell<G: Image>(rt: &HostRuntime, alloc: Global, image: &mut G) -> io::Result<
     }
 }
 
+/// Each file has a shelf of its own, so that none has to be released.
+fn tell_file(rt: &HostRuntime, word: &str) -> io::Result<()> {
+    let mut shelf = DiskShelf::new(rt.alloc(), rt, Access::ReadOnly);
+    match shelf.attach(word) {
+        Ok(mut image) => tell(rt, rt.alloc(), &mut image),
+        Err(_) => println!(rt; "no such file"),
+    }
+}
+
 fn main(rt: HostRuntime) -> io::Result<()> {
-    let mut shelf = DiskShelf::new(rt.alloc(), &rt, Access::ReadOnly);
     println!(rt; "0 true")?;
     for word in env::args(&rt)?.skip(1) {
-        match shelf.attach(&word) {
-            Ok(mut image) => {
-                tell(&rt, rt.alloc(), &mut image)?;
-                shelf.release(image);
-            }
-            Err(_) => println!(rt; "no such file")?,
-        }
+        tell_file(&rt, &word)?;
     }
     Ok(())
 }
@@ -110,72 +126,84 @@ def image_of(volume, steps):
     return bytes(made.image)
 
 
-def random_damage(count):
-    """Volumes with some bytes of records and of index blocks changed, and what the independent reading says of each."""
-    dice = random.Random(20261201)
-    for number in range(count):
-        volume = (dice.randrange(16), 1024, 4096)
-        image = bytearray(breaks.Volume(*volume).image)
-        table = check.read_geometry(image).mft * 4096
-        for _ in range(dice.choice((1, 1, 2, 3))):
-            record = dice.choice((0, 1, 2, 3, 5, 6, 7, 8, 10, 11, *range(16, 28)))
-            image[table + 1024 * record + dice.choice((dice.randrange(0x40), dice.randrange(0x1F0)))] = dice.randrange(256)
-        yield f"random damage {number}", bytes(image), {check.verdict(bytes(image))}
-
-
-def wanted(words, count):
+def table():
+    """The damages of the table, with the verdicts that are expected or that the words of the rules allow."""
     rows = [(name, volume, steps, {expected}) for name, volume, steps, expected in breaks.TABLE]
     rows += [(name, volume, steps, set(answers)) for name, volume, steps, answers in breaks.OPEN]
     for name, volume, steps, answers in sorted(rows, key=lambda row: row[1]):
-        if all(word in name for word in words):
-            yield name, image_of(volume, steps), answers
-    if not words:
-        yield from random_damage(count)
+        yield name, lambda: image_of(volume, steps), answers
 
 
-def pieces(rows):
-    piece = []
-    for row in rows:
-        piece.append(row)
-        if len(piece) == AT_ONCE:
-            yield piece
-            piece = []
-    if piece:
-        yield piece
+def within_memory(image):
+    """The verdict of the independent reading, or nothing where it would take 8 GiB, as by a stream of a huge hole."""
+    limits = resource.getrlimit(resource.RLIMIT_AS)
+    resource.setrlimit(resource.RLIMIT_AS, (8 << 30, limits[1]))
+    try:
+        return check.verdict(image)
+    except MemoryError:
+        return None
+    finally:
+        resource.setrlimit(resource.RLIMIT_AS, limits)
 
 
-def verdicts(program, piece):
-    with tempfile.TemporaryDirectory() as folder:
-        names = []
-        for place, (_, image, _) in enumerate(piece):
-            names.append(pathlib.Path(folder) / str(place))
-            names[-1].write_bytes(image)
-        done = subprocess.run([program, *names], capture_output=True, text=True)
-    lines = done.stdout.splitlines()[1:]
-    if done.returncode or len(lines) != len(piece):
-        raise SystemExit(done.stdout + done.stderr)
+def wanted(told):
+    """Name, image and allowed verdicts of each volume that is to be tried."""
+    if told.made or told.stock:
+        volumes, count = (random_damage.made, told.made) if told.made else (random_damage.stock, told.stock)
+        for name, image in volumes(told.first, told.first + count):
+            if (verdict := within_memory(image)) is not None:
+                yield name, image, {verdict}
+        return
+    for name, image, answers in table():
+        if all(word in name for word in told.words):
+            yield name, image(), answers
+
+
+def tried(files, program=None):
+    """The verdict of the crates, or of a program that is named, on the volume of each file."""
+    if program is None:
+        lines = tried_over(crates(), "try_check", PROGRAM, files, uses=USES)[1:]
+    else:
+        lines = subprocess.run([program, *files], check=True, stdout=subprocess.PIPE, text=True).stdout.splitlines()[1:]
+    if len(lines) != len(files):
+        raise SystemExit(f"{len(files)} volumes, but {len(lines)} verdicts")
     return lines
 
 
-def main(words):
-    loud = "-v" in words
-    words = [word for word in words if word != "-v"]
-    count = 0
-    if "--random" in words:
-        place = words.index("--random")
-        count = int(words[place + 1])
-        del words[place:place + 2]
-    total = wrong = 0
-    with program_over(crates(), "try_check", PROGRAM, uses=USES) as (program, _):
-        for piece in pieces(wanted(words, count)):
-            for (name, _, answers), line in zip(piece, verdicts(program, piece)):
-                total += 1
-                wrong += line not in answers
-                if loud or line not in answers:
-                    print(f"{'as expected' if line in answers else 'DIFFERS'}  {name}: {line}; expected {' or '.join(sorted(answers))}", flush=True)
-    print(f"{total} volumes, {wrong} differ")
+def told_of(volumes, program):
+    """Names with allowed verdicts, and the verdicts: of all volumes at once, or of some at a time where there is a program."""
+    while True:
+        rows = []
+        with tempfile.TemporaryDirectory() as folder:
+            files = []
+            for name, image, answers in itertools.islice(volumes, AT_ONCE if program else None):
+                rows.append((name, answers))
+                files.append(pathlib.Path(folder) / str(len(files)))
+                write_sparse(files[-1], image)
+            if not rows:
+                return
+            yield rows, tried(files, program)
+
+
+def main():
+    parser = argparse.ArgumentParser()
+    parser.add_argument("-v", action="store_true")
+    parser.add_argument("--program")
+    for option in ("--made", "--stock", "--from"):
+        parser.add_argument(option, type=int, default=0, dest="first" if option == "--from" else None)
+    parser.add_argument("words", nargs="*")
+    told = parser.parse_args()
+    wrong, kinds = 0, collections.Counter()
+    for rows, lines in told_of(wanted(told), told.program):
+        for (name, answers), line in zip(rows, lines):
+            kinds[re.sub(r"^(damaged: rule C\d+|bad geometry|accepted|image|\w+).*", r"\1", line)] += 1
+            wrong += line not in answers
+            if told.v or line not in answers:
+                print(f"{'as expected' if line in answers else 'DIFFERS'}  {name}: {line}; expected {' or '.join(sorted(answers))}", flush=True)
+    print(", ".join(f"{kind} {count}" for kind, count in kinds.most_common()))
+    print(f"{kinds.total()} volumes, {wrong} differ")
     sys.exit(1 if wrong else 0)
 
 
 if __name__ == "__main__":
-    main(sys.argv[1:])
+    main()
