@@ -6,8 +6,6 @@ mod case;
 #[cfg(test)]
 mod cat;
 #[cfg(test)]
-mod clone;
-#[cfg(test)]
 mod cluster;
 #[cfg(test)]
 mod faults;

@@ -20,14 +20,6 @@ pub const NUMBER: Status = Status::Usage {
 
 pub const NO_IMAGE: Status = Status::Absent { file: Named::Image };
 
-pub const NO_SOURCE: Status = Status::Absent {
-    file: Named::Source,
-};
-
-pub const SAME_NAME: Status = Status::Usage {
-    kind: UsageKind::SameName,
-};
-
 pub const OUTPUT_THERE: Status = Status::Present {
     file: Named::Output,
 };
@@ -52,10 +44,6 @@ pub fn no_record(number: u64) -> Status {
 
 pub fn not_plain(flags: u16) -> Status {
     Status::NotPlain { flags }
-}
-
-pub fn bad_clone(place: u64) -> Status {
-    Status::BadClone { place }
 }
 
 pub fn guarded_refusal(number: u64, kind: u32) -> Status {
