@@ -1,14 +1,15 @@
 #!/usr/bin/env python3
-"""Tries `ntfsclone` on stock volumes of several cluster sizes, and on made ones of seeds 0 to 15 with clusters of 512 to 65,536 bytes:
-what is saved is restored, the raw copy is what is restored, the stock `ntfsclone -r` restores the same bytes, tools/check.py
-accepts them, the names and the streams of each record are as before, and $Bitmap says what was saved.
+"""Tries `ntfsclone` on stock volumes of several cluster sizes, and on made ones of seeds 0 to 15 with clusters of 512
+to 65,536 bytes: what is saved is restored, the raw copy is what is restored, the stock `ntfsclone -r` restores the same
+bytes, tools/check.py accepts them, the names and the streams of each record are as before, and $Bitmap says what was
+saved. A dirty volume is refused without `-f`.
 
     try_clone.py [--program FILE] [--tools FILE] [--made N] [WORD ..]
 
 FILE takes the line `ntfsclone ..` as its words, as the program of this repository does, which is built by `rt run` in
-crates/ntfsprogs unless one is named; `--tools` names another one for `ntfsls` and `ntfscat`. With WORDs only volumes whose heading
-has them all are tried, and with --made made ones of seeds below N. It needs ntfs-3g, and for stock volumes the right to mount. The
-repository is only read, but for the built program. It ends with 1 where something differs.
+crates/ntfsprogs unless one is named; `--tools` names another one for `ntfsls` and `ntfscat`. With WORDs only volumes
+whose heading has them all are tried, and with --made made ones of seeds below N. It needs ntfs-3g, and for stock
+volumes the right to mount. The repository is only read, but for the built program. It ends with 1 where something differs.
 """
 
 import argparse
@@ -49,13 +50,27 @@ def volumes(seeds):
             yield f"made, seed {seed}, {clusters} clusters of {cluster}", made
 
 
+def read_volume(image):
+    """The independent reading of a volume that keeps the first eight rules."""
+    volume = check.Volume(image)
+    for number in range(1, 9):
+        getattr(check, f"rule_c{number}")(volume)
+    return volume
+
+
 def owned_bytes(path):
     """What the independent reading says of a volume: its verdict, its geometry and which clusters are owned."""
     with open(path, "rb") as file, mmap.mmap(file.fileno(), 0, access=mmap.ACCESS_READ) as image:
-        volume = check.Volume(image)
-        for rule in (check.rule_c1, check.rule_c2, check.rule_c3, check.rule_c4, check.rule_c5, check.rule_c6, check.rule_c7, check.rule_c8):
-            rule(volume)
+        volume = read_volume(image)
         return check.verdict(image), volume.geometry, bytes(volume.owned)
+
+
+def is_dirty(path):
+    """Whether the flags of $VOLUME_INFORMATION in record 3 say so."""
+    with open(path, "rb") as file, mmap.mmap(file.fileno(), 0, access=mmap.ACCESS_READ) as image:
+        attributes = read_volume(image).records[3].attributes
+        value = next(part.value for part in attributes if part.type == check.VOLUME_INFORMATION)
+        return struct.unpack_from("<H", value, 10)[0] & 1 == 1
 
 
 def expected_clone(path, geometry, owned):
@@ -86,7 +101,8 @@ def is_clone(path, pieces):
 
 def shown(tools, path, records):
     """What our tools show of a volume: all names, and the unnamed stream of each record."""
-    return [run([tools, "ntfsls", "-aRiF", path]), *(run([tools, "ntfscat", "-i", number, path]) for number in range(records))]
+    listed = run([tools, "ntfsls", "-aRiF", path])
+    return [listed, *(run([tools, "ntfscat", "-i", number, path]) for number in range(records))]
 
 
 def wrong_with(program, tools, volume, folder):
@@ -94,10 +110,16 @@ def wrong_with(program, tools, volume, folder):
     saved, restored, stock, copy = (folder / name for name in ("saved", "restored", "stock", "copy"))
     verdict, geometry, owned = owned_bytes(volume)
     wrong = []
+    force = ["-f"] if is_dirty(volume) else []
+    if force:
+        for words in (["-s", "-o", saved, volume], ["-o", copy, volume]):
+            status, _ = run([program, "ntfsclone", *words])
+            if status != 5 or words[-2].exists():
+                wrong.append(f"ntfsclone {words} ends with {status} where the volume is dirty")
     for heading, words in (
-        ("saving", [program, "ntfsclone", "-s", "-O", saved, volume]),
+        ("saving", [program, "ntfsclone", "-s", *force, "-O", saved, volume]),
         ("restoring", [program, "ntfsclone", "-r", "-O", restored, saved]),
-        ("copying", [program, "ntfsclone", "-O", copy, volume]),
+        ("copying", [program, "ntfsclone", *force, "-O", copy, volume]),
         ("the stock restoring", ["ntfsclone", "-q", "-r", "-O", stock, saved]),
     ):
         status, _ = run(words)

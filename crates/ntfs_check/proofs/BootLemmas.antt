@@ -6,7 +6,7 @@ use Rattle.std.proofs.lemmas.Bool.{eq-eqb}
 use Rattle.std.proofs.lemmas.List.Elements.{All-contains_itself, recursion_from_All}
 use Rattle.ntfs_base.specs.Frames.{must, ◌>>=◌}
 use Rattle.ntfs_base.specs.declared.refusal.Rule.TheVariants as rule
-use Rattle.ntfs_check_fixed.specs.Facts.{end_of}
+use Rattle.ntfs_check_fixed.specs.Facts.{owned_end}
 use Rattle.ntfs_directory.specs.UpCase.{data_kind}
 use Rattle.ntfs_record.specs.FileRecord.{Attribute, Head, Laid}
 use Rattle.ntfs_record.specs.Slots.{Slot}
@@ -130,18 +130,18 @@ cell-claimed : (slots : Records ℕ) (r k : ℕ) → HaveNoCells slots → IsOfR
 cell-claimed slots r k none cell =
     claim-by cell.attribute.face.is_resident slots r k cell refl (all-at HasNoCells (slot_at slots r).attributes cell.attribute (none-at slots r none) cell.has)
 
-end-first : (r k : ℕ) (claim : Claim ℕ) (claims : List (Claim ℕ)) → claim.number ≡ r → claim.cluster ≡ k → k + 1 ≤ end_of r (claim ∷ claims)
-unfolding end_of
+end-first : (r k : ℕ) (claim : Claim ℕ) (claims : List (Claim ℕ)) → claim.number ≡ r → claim.cluster ≡ k → k + 1 ≤ owned_end r (claim ∷ claims)
+unfolding owned_end
 end-first r k claim claims own is =
     let mine : (if claim.number == r then claim.cluster + 1 else 0) ≡ claim.cluster + 1 = ap (λ b. if b then claim.cluster + 1 else 0) (eq-eqb claim.number r own) in
     omega (arith, mine, is)
 
-end-rest : (r k : ℕ) (claim : Claim ℕ) (claims : List (Claim ℕ)) → k + 1 ≤ end_of r claims → k + 1 ≤ end_of r (claim ∷ claims)
-unfolding end_of
+end-rest : (r k : ℕ) (claim : Claim ℕ) (claims : List (Claim ℕ)) → k + 1 ≤ owned_end r claims → k + 1 ≤ owned_end r (claim ∷ claims)
+unfolding owned_end
 end-rest r k claim claims is = omega (arith, is)
 
 -- a record reaches as far as its claims
-end-claimed : (r k : ℕ) (claims : List (Claim ℕ)) → ClaimBy claims r k → k + 1 ≤ end_of r claims
+end-claimed : (r k : ℕ) (claims : List (Claim ℕ)) → ClaimBy claims r k → k + 1 ≤ owned_end r claims
 end-claimed r k [] (claim, (j, lt, same), own, is) = absurd (omega (arith, lt))
 end-claimed r k (x ∷ claims) (claim, (zero, lt, same), own, is) =
     end-first r k x claims (ap (λ (c : Claim ℕ). c.number) same ∙ own) (ap (λ (c : Claim ℕ). c.cluster) same ∙ is)
@@ -172,7 +172,7 @@ boot-cells o f is =
 no-cells : (o : Opened) (f : ℕ → List ℕ) → HaveNoCells (numbers (volume_data o f))
 no-cells o f = subst (λ (slots : Records ℕ). HaveNoCells slots) (sym (numbers-are o f)) (volume-none o.geometry o.map f)
 
-pub boot-begun : (o : Opened) (f : ℕ → List ℕ) → fault_of (volume_data o f) ≡ None → 1 ≤ end_of 7 (claims_in (volume_data o f))
+pub boot-begun : (o : Opened) (f : ℕ → List ℕ) → fault_of (volume_data o f) ≡ None → 1 ≤ owned_end 7 (claims_in (volume_data o f))
 boot-begun o f is =
     let v = volume_data o f in
     let parts = boot-cells o f is in

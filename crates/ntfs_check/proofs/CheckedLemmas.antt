@@ -6,7 +6,7 @@ use Rattle.ntfs_base.specs.Frames.{IsSettled}
 use Rattle.ntfs_base.specs.Image.{ImageState}
 use Rattle.ntfs_base.specs.declared.refusal.Rule.{Rule}
 use Rattle.ntfs_check.proofs.JudgedLemmas.{volume_seen}
-use Rattle.ntfs_check.specs.Checked.{Stands, Verdict}
+use Rattle.ntfs_check.specs.Checked.{StandsOn, Verdict}
 use Rattle.ntfs_check.specs.Findings.{Fit, VolumeFindings, examined, findings_of}
 use Rattle.ntfs_rules.specs.Accepts.{Accepts, Broken, damaged, fault_of, first_fault, opened_fault}
 use Rattle.ntfs_rules.specs.Laws.{data_in}
@@ -80,7 +80,7 @@ verdict-refused image o check.NoMemory opened is = tt
 
 -- ---- what stands
 
-pub stands-given : (s : ImageState) (o : Opened) (f : VolumeFindings) → HasClusters s.size o → Fit o f → (IsTrue s.is_told → opened_of s.content ≡ Ok o) → (IsTrue s.is_told → examined (volume_seen o s) ≡ Ok f) → Stands s o f
+pub stands-given : (s : ImageState) (o : Opened) (f : VolumeFindings) → HasClusters s.size o → Fit o f → (IsTrue s.is_told → opened_of s.content ≡ Ok o) → (IsTrue s.is_told → examined (volume_seen o s) ≡ Ok f) → StandsOn s o f
 stands-given s o f held fit opened is = record {
   held = held;
   fit = fit;
@@ -90,6 +90,6 @@ stands-given s o f held fit opened is = record {
 }
 
 -- after a call that only reads
-pub stands-still : (old new : ImageState) (o p : Opened) (f : VolumeFindings) → new ≡ old → p ≡ o → Stands old o f → Stands new p f
+pub stands-still : (old new : ImageState) (o p : Opened) (f : VolumeFindings) → new ≡ old → p ≡ o → StandsOn old o f → StandsOn new p f
 stands-still old new o p f seen kept stands =
-    subst (λ (s : ImageState). Stands s p f) (sym seen) (subst (λ (q : Opened). Stands old q f) (sym kept) stands)
+    subst (λ (s : ImageState). StandsOn s p f) (sym seen) (subst (λ (q : Opened). StandsOn old q f) (sym kept) stands)

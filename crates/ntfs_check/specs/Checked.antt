@@ -26,7 +26,7 @@ Verdict content (Err check.NoMemory) = Unit {0}
 -- what was found stands on an image that is seen so: it has the clusters of what is kept; the sets are of these
 -- clusters, and record 7 ends on them; and where it tells its content, that content is accepted, opens as what is kept,
 -- and has these findings
-pub record Stands (s : ImageState) (o : Opened) (f : VolumeFindings) : Type 0 where
+pub record StandsOn (s : ImageState) (o : Opened) (f : VolumeFindings) : Type 0 where
   pub held : HasClusters s.size o
   pub fit : Fit o f
   pub accepted : IsTrue s.is_told → Accepts s.content
@@ -35,4 +35,4 @@ pub record Stands (s : ImageState) (o : Opened) (f : VolumeFindings) : Type 0 wh
 
 -- a checked volume stands
 abbrev pub CheckStands : {G : Type 0} → image.Ghosts G → Checked G → Type 0
-CheckStands g c = Stands (g.seen c.volume.image.now) c.volume.table c.findings
+CheckStands g c = StandsOn (g.seen c.volume.image.now) c.volume.table c.findings

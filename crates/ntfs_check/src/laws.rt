@@ -3,7 +3,7 @@
 ghost use Rattle.std.specs.Prelude.{◌≡◌, ℕ, List, Result, Some, Err, Ok};
 ghost use Rattle.ntfs_base.specs.Frames.{OnlyReads, Origin};
 ghost use Rattle.ntfs_base.specs.declared.refusal.Rule.{Rule};
-ghost use Rattle.ntfs_check.specs.Checked.{Stands};
+ghost use Rattle.ntfs_check.specs.Checked.{StandsOn};
 ghost use Rattle.ntfs_check.specs.Findings.{VolumeFindings, examined, findings_of};
 ghost use Rattle.ntfs_rules.specs.Accepts.{Accepts, Broken, damaged, first_fault};
 ghost use Rattle.ntfs_rules.specs.Laws.{data_in};
@@ -32,5 +32,5 @@ pub fn accepted_images_are_examined()
 /// Reading keeps what stands: it looks at the image only as it is seen.
 pub fn reading_keeps_what_stands<G: Image, T, E>()
     ensures { (origin : E → Origin) (old new : G) (result : Result T E) (o : Opened) (f : VolumeFindings)
-        → OnlyReads G.Image origin old new result → Stands (G.seen old) o f → Stands (G.seen new) o f }
+        → OnlyReads G.Image origin old new result → StandsOn (G.seen old) o f → StandsOn (G.seen new) o f }
 {}

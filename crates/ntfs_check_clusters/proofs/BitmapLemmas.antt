@@ -15,7 +15,7 @@ use Rattle.std.proofs.lemmas.Grind.{div_ceil_times}
 use Rattle.ntfs_base.specs.Bytes.{cluster_at}
 use Rattle.ntfs_boot.specs.declared.geometry.Geometry.{Geometry}
 use Rattle.ntfs_rules.proofs.ContentLemmas.{shown-stream}
-use Rattle.ntfs_rules.specs.FixedRecords.{has_bytes, is_bitmap, is_solid}
+use Rattle.ntfs_rules.specs.FixedRecords.{has_both_sizes, is_bitmap, is_solid}
 use Rattle.ntfs_runs.specs.Cells.{are_cells, map_cells}
 use Rattle.ntfs_stream.proofs.BoolLemmas.{and-left, and-right}
 use Rattle.ntfs_stream.specs.Putting.{shown_cells}
@@ -178,9 +178,9 @@ record IsRoomy (n : ℕ) (s : Stream ℕ) : Type 0 where
 roomy : (n : ℕ) (found : Gathered ℕ) → is_bitmap n found ≡ true → IsRoomy n found.stream
 unfolding is_bitmap is_solid
 roomy n found is =
-    let solid = and-left (is_solid n found.stream) ((found.extents == 1) && has_bytes (div_ceil n 8) found.stream) is in
-    let more = and-right (is_solid n found.stream) ((found.extents == 1) && has_bytes (div_ceil n 8) found.stream) is in
-    let sizes = and-right (found.extents == 1) (has_bytes (div_ceil n 8) found.stream) more in
+    let solid = and-left (is_solid n found.stream) ((found.extents == 1) && has_both_sizes (div_ceil n 8) found.stream) is in
+    let more = and-right (is_solid n found.stream) ((found.extents == 1) && has_both_sizes (div_ceil n 8) found.stream) is in
+    let sizes = and-right (found.extents == 1) (has_both_sizes (div_ceil n 8) found.stream) more in
     let size = leb-true (div_ceil n 8) found.stream.size (and-left (nat_le (div_ceil n 8) found.stream.size) (nat_le (div_ceil n 8) found.stream.valid) sizes) in
     let rest = and-right (found.stream.flags == 0) (not found.stream.is_resident && are_cells false n found.stream.cells) solid in
     let all = (div_ceil_times n 8 (omega arith)).0 in

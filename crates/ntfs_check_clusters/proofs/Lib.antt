@@ -1,5 +1,4 @@
 mod ClaimLemmas
-mod SearchLemmas
 mod BitmapLemmas
 mod NameLemmas
 mod AskedLemmas

@@ -18,7 +18,8 @@ use Rattle.ntfs_volume.specs.declared.fault.VolumeFault.{VolumeFault}
 use Rattle.ntfs_base.specs.Frames.{Gives}
 use Rattle.ntfs_base.specs.declared.refusal.Rule.TheVariants as rule
 use Rattle.ntfs_rules.proofs.DataLemmas.{c6-is}
-use Rattle.ntfs_check_clusters.specs.Asked.{first_refused}
+use Rattle.ntfs_check_records.specs.Asked.{first_refused}
+use Rattle.ntfs_check_clusters.specs.Asked.{cluster_answer}
 use Rattle.ntfs_rules.specs.Outcome.{check_origin, unless_number}
 use Rattle.ntfs_rules.specs.Records.{bitmap_kind, c5, c6, first_bad, first_unmarked, has_bit}
 use Rattle.ntfs_rules.specs.VolumeData.{Records, content_in, contents, volume_data}
@@ -27,11 +28,11 @@ use Rattle.ntfs_rules.specs.declared.fault.CheckFault.{CheckFault}
 use Rattle.ntfs_volume.specs.Located.{map_located, slots_from, slots_of, with_cells}
 use Rattle.ntfs_volume.specs.Opened.{Opened}
 
-names-asked : (o : Opened) (f : ℕ → List ℕ) → first_refused o f asked.Names ≡ c6 (slots_of o.geometry o.map f)
+names-asked : (o : Opened) (f : ℕ → List ℕ) → first_refused (cluster_answer asked.Names) o f ≡ c6 (slots_of o.geometry o.map f)
 unfolding c6
 names-asked o f = refl
 
-pub names-given : (o : Opened) (f : ℕ → List ℕ) (result : Result (Unit {0}) CheckFault) → Gives check_origin (λ done. done) (unless_number rule.C6 (first_refused o f asked.Names) tt) result
+pub names-given : (o : Opened) (f : ℕ → List ℕ) (result : Result (Unit {0}) CheckFault) → Gives check_origin (λ done. done) (unless_number rule.C6 (first_refused (cluster_answer asked.Names) o f) tt) result
     → Gives check_origin (λ done. done) (unless_number rule.C6 (c6 (volume_data o f).slots) tt) result
 names-given o f result = subst (λ (found : Option ℕ). Gives check_origin (λ done. done) (unless_number rule.C6 found tt) result) (names-asked o f ∙ sym (c6-is o f))
 
@@ -58,7 +59,7 @@ first_not-same test other slot from (suc count) same =
     (first_not-same test other slot (suc from) count (λ n above below. same n (omega (arith, above)) (omega (arith, below))))
 
 marks-front : (o : Opened) (f : ℕ → List ℕ) (all : List ℕ) (bits : Bor (List ℕ)) (most : ℕ) → initialised_count o.geometry o.map ≤ 8 * most → bits.now ≡ take most all
-    → first_refused o f (asked.Mark bits) ≡ first_bad (λ r s. has_bit all r) (slots_of o.geometry o.map f)
+    → first_refused (cluster_answer (asked.Mark bits)) o f ≡ first_bad (λ r s. has_bit all r) (slots_of o.geometry o.map f)
 unfolding slots_of
 marks-front o f all bits most enough is =
     first_not-same (λ r s. not s.is_live || has_bit bits.now r) (λ r s. not s.is_live || has_bit all r) (record_at o f) 0 (initialised_count o.geometry o.map)
@@ -78,7 +79,7 @@ unfolding c5
 marks-absent o f most none = unmarked-none (volume_data o f).geometry.cluster most (content_in (volume_data o f) 0 bitmap_kind []) (contents (volume_data o f)) none
 
 marks-asked : (o : Opened) (f : ℕ → List ℕ) (most : ℕ) (front : List ℕ) (bits : Bor (List ℕ)) → initialised_count o.geometry o.map ≤ 8 * most → Some front ≡ option_map (take most) (marks_in (volume_data o f)) → bits.now ≡ front
-    → first_refused o f (asked.Mark bits) ≡ marks_of (volume_data o f)
+    → first_refused (cluster_answer (asked.Mark bits)) o f ≡ marks_of (volume_data o f)
 unfolding c5
 marks-asked o f most front bits enough some is =
     let found = unmarked-found (volume_data o f).geometry.cluster most (content_in (volume_data o f) 0 bitmap_kind []) (contents (volume_data o f)) front some in
@@ -86,7 +87,7 @@ marks-asked o f most front bits enough some is =
 
 pub marks-given : (o : Opened) (f : ℕ → List ℕ) (most : ℕ) (front : List ℕ) (bits : Bor (List ℕ)) (result : Result (Unit {0}) CheckFault) → initialised_count o.geometry o.map ≤ 8 * most
     → Some front ≡ option_map (take most) (marks_in (volume_data o f)) → bits.now ≡ front
-    → Gives check_origin (λ done. done) (unless_number rule.C5 (first_refused o f (asked.Mark bits)) tt) result
+    → Gives check_origin (λ done. done) (unless_number rule.C5 (first_refused (cluster_answer (asked.Mark bits)) o f) tt) result
     → Gives check_origin (λ done. done) (unless_number rule.C5 (marks_of (volume_data o f)) tt) result
 marks-given o f most front bits result enough some is =
     subst (λ (found : Option ℕ). Gives check_origin (λ done. done) (unless_number rule.C5 found tt) result) (marks-asked o f most front bits enough some is)

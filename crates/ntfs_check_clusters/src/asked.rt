@@ -1,7 +1,8 @@
 //! Questions about records, one record at a time.
 
 ghost use Rattle.std.specs.Prelude.{◌≡◌, ◌+◌, ◌≤◌, ◌*◌, length, Some};
-ghost use Rattle.ntfs_check_clusters.specs.Asked.{has_bit_in, has_names_between, is_name_between, passes_asked};
+ghost use Rattle.ntfs_check_clusters.specs.Asked.{cluster_answer, has_bit_in, has_names_between, is_name_between};
+ghost use Rattle.ntfs_check_records.specs.Asked.{passes_asked};
 ghost use Rattle.ntfs_fixup.specs.Fixups.{HasWholeStrides};
 ghost use Rattle.ntfs_record.specs.Attribute.{IsRaw};
 ghost use Rattle.ntfs_record.specs.IsRecord.{IsKept};
@@ -9,12 +10,17 @@ ghost use Rattle.ntfs_record.specs.Parsing.{parse_of};
 ghost use Rattle.ntfs_record.specs.Slots as slots;
 ghost use Rattle.ntfs_volume.specs.Located.{live_located, located_slot};
 
+use ntfs_base::Image;
 use ntfs_bitmap::bit_of;
+use ntfs_check_records::{Question, tells_own};
 use ntfs_fixup::{Magic, unfix};
 use ntfs_record::layout::{
     length_at, name_offset_at, name_units_at, non_resident_at, pairs_offset_at, value_offset_at,
 };
 use ntfs_record::{RecordView, is_in_use, parse};
+use ntfs_rules::CheckFault;
+use ntfs_volume::Table;
+use std::alloc::Global;
 
 /// What is asked of each record in use.
 #[derive(Clone, Copy)]
@@ -66,21 +72,12 @@ fn has_names_between(block: &[u8], view: &RecordView<'_>) -> bool
     true
 }
 
-/// The record tells no other number than its own.
-fn tells_own(told: Option<u32>, number: u64) -> bool
-    ensures { result ≡ slots.tells_own number told }
-{
-    match told {
-        None => true,
-        Some(own) => u64::from(own) == number,
-    }
-}
-
 /// The names of the record of a number, which is in use and has these bytes, which are unfixed in place: nothing is
 /// said against one that can't be read.
 fn passes_names(number: u64, raw: &mut [u8]) -> bool
     requires { HasWholeStrides raw.old }
-    ensures { result ≡ passes_asked Asked.Names number (live_located number (slots.record_in raw.old)) }
+    ensures { result ≡ passes_asked (cluster_answer Asked.Names) number
+        (live_located number (slots.record_in raw.old)) }
 {
     if unfix(raw, Magic::File).is_err() {
         return true;
@@ -93,9 +90,9 @@ fn passes_names(number: u64, raw: &mut [u8]) -> bool
 }
 
 /// The answer of the record of a number, which has these bytes; they hold anything afterwards.
-pub(crate) fn passes(asked: &Asked<'_>, number: u64, raw: &mut [u8]) -> bool
+fn passes_raw(asked: &Asked<'_>, number: u64, raw: &mut [u8]) -> bool
     requires { HasWholeStrides raw.old }
-    ensures { result ≡ passes_asked asked.now number (located_slot number (Some raw.old)) }
+    ensures { result ≡ passes_asked (cluster_answer asked.now) number (located_slot number (Some raw.old)) }
 {
     if !is_in_use(raw) {
         return true;
@@ -103,5 +100,25 @@ pub(crate) fn passes(asked: &Asked<'_>, number: u64, raw: &mut [u8]) -> bool
     match asked {
         Asked::Mark { bits } => has_bit(bits, number),
         Asked::Names => passes_names(number, raw),
+    }
+}
+
+impl<'a> Question for Asked<'a> {
+    ghost use Rattle.std.specs.Prelude.{⊤};
+    ghost use Rattle.ntfs_check_clusters.specs.Asked.{cluster_answer};
+
+    ghost presumes = { λ asked o content. ⊤ };
+
+    ghost answer = { λ asked o content. cluster_answer asked };
+
+    fn passes<G: Image>(
+        &self,
+        _alloc: Global,
+        _image: &mut G,
+        _table: &Table,
+        number: u64,
+        raw: &mut [u8],
+    ) -> Result<bool, CheckFault> {
+        Ok(passes_raw(self, number, raw))
     }
 }

@@ -8,7 +8,7 @@ ghost use Rattle.ntfs_base.specs.declared.refusal.Rule.TheVariants as rule;
 ghost use Rattle.ntfs_bitmap.specs.ClusterSet.{bound_of, has};
 ghost use Rattle.ntfs_check_clusters.specs.Outcome.{bitmap_of};
 ghost use Rattle.ntfs_rules.specs.Clusters.{are_bits_of};
-ghost use Rattle.ntfs_rules.specs.Content.{CanRead, shown_bytes};
+ghost use Rattle.ntfs_rules.specs.Content.{AreReadable, shown_bytes};
 ghost use Rattle.ntfs_rules.specs.FixedRecords.{is_bitmap};
 ghost use Rattle.ntfs_rules.specs.Outcome.{check_origin, unless_number};
 ghost use Rattle.ntfs_rules.specs.VolumeData.{volume_data};
@@ -43,7 +43,7 @@ fn are_bits_of<G: Image>(
     valid: u64,
     set: &ClusterSet,
 ) -> Result<bool, CheckFault>
-    requires readable { CanRead (G.seen image.old).size geometry.now runs.now }
+    requires readable { AreReadable (G.seen image.old).size geometry.now runs.now }
     requires bound { bound_of set.now ≡ geometry.now.clusters }
     requires room { geometry.now.clusters ≤ 8 * (length (vcns runs.now) * geometry.now.cluster) }
     ensures found { IfTold G.Image image.old (λ content. IfOk result (λ is. is ≡ are_bits_of (has set.now)

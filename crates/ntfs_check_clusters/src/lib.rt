@@ -7,7 +7,6 @@ mod claims;
 mod clusters;
 mod gathered;
 mod marks;
-mod search;
 mod surveyed;
 
 pub use clusters::check_clusters;

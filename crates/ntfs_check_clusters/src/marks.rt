@@ -6,7 +6,6 @@ ghost use Rattle.ntfs_base.specs.Bytes.{cluster_at};
 ghost use Rattle.ntfs_base.specs.Frames.{Gives, IfTold, IsSettled, OnlyReads};
 ghost use Rattle.ntfs_check_clusters.specs.Marks.{marks_in};
 ghost use Rattle.ntfs_check_clusters.specs.Outcome.{marks_of};
-ghost use Rattle.ntfs_check_clusters.specs.Asked.{first_refused};
 ghost use Rattle.ntfs_rules.specs.Outcome.{check_origin, unless_number};
 ghost use Rattle.ntfs_rules.specs.Records.{c6};
 ghost use Rattle.ntfs_rules.specs.VolumeData.{volume_data};
@@ -15,8 +14,8 @@ ghost use Rattle.ntfs_volume.specs.Opened.{HasClusters};
 
 use crate::asked::Asked;
 use crate::gathered::gather_unnamed;
-use crate::search::first_failing;
 use ntfs_base::{Image, Rule};
+use ntfs_check_records::ask_all;
 use ntfs_rules::{CheckFault, Front, damaged, read_front};
 use ntfs_volume::Table;
 use std::alloc::Global;
@@ -26,28 +25,6 @@ const RECORD: u64 = 0;
 
 /// The type of $BITMAP.
 const KIND: u32 = 0xB0;
-
-/// Whether what is asked holds of all records in use, or which is the first of which it doesn't: that one breaks a
-/// rule.
-fn ask_all<G: Image>(
-    alloc: Global,
-    image: &mut G,
-    table: &Table,
-    asked: &Asked<'_>,
-    rule: Rule,
-) -> Result<(), CheckFault>
-    requires held { HasClusters (G.seen image.old).size table.now }
-    ensures gives { IfTold G.Image image.old (λ content. Gives check_origin (λ done. done)
-        (unless_number rule (first_refused table.now (cluster_at content table.now.geometry.cluster) asked.now) tt)
-        result) }
-    ensures reads { OnlyReads G.Image check_origin image.old image.new result }
-{
-    let found = first_failing(alloc, image, table, asked)?;
-    match found {
-        None => Ok(()),
-        Some(number) => Err(damaged(rule, number)),
-    }
-}
 
 /// The first bytes of $MFT's bitmap, so many or all; none where record 0 has no such stream.
 fn read_marks<G: Image>(

@@ -1,6 +1,5 @@
 mod RowLemmas
 mod AskedLemmas
-mod SearchLemmas
 mod RuleLemmas
 mod NameLemmas
 mod LeadLemmas

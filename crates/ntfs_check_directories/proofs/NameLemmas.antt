@@ -3,7 +3,6 @@ use Rattle.std.proofs.Common.{◌≡◌, ◌&&◌, ◌||◌, ℕ, Bool, true, fa
 use Rattle.std.specs.List.{filter, list_any}
 use Rattle.std.specs.Option.{ok_or, option_map}
 use Rattle.std.specs.Prelude.{find, is_ok}
-use Rattle.std.specs.Result.{result_map_both}
 use Rattle.ntfs_attrlist.specs.Entry.{Listed}
 use Rattle.ntfs_attrlist.specs.Reading.{all_or_first, list_entries, list_items}
 use Rattle.ntfs_attrlist.specs.declared.fault.BadEntry.{BadEntry}
@@ -14,7 +13,8 @@ use Rattle.ntfs_record.specs.FileRecord.{Attribute, FileRecord, Head, Laid}
 use Rattle.ntfs_record.specs.Slots.{Slot}
 use Rattle.ntfs_record.specs.Views.{Placed, Shown, placed_of, shown_placed}
 use Rattle.ntfs_rules.specs.Directories.{file_name_kind}
-use Rattle.ntfs_volume.proofs.EntriesLemmas.{right_entries}
+use Rattle.ntfs_check_records.proofs.EntryLemmas.{good-all}
+use Rattle.ntfs_check_records.specs.Entries.{good_entries}
 use Rattle.ntfs_volume.proofs.GatherLemmas.{IsFaulty}
 use Rattle.ntfs_volume.specs.Gather.{Extent, all_found, bad_list, extent_at, extents_in, found_in, id_of, is_member, is_of, listed_extents, lists, means, own_extents}
 use Rattle.ntfs_volume.specs.Gathering.{is_meant, shown_id}
@@ -102,25 +102,12 @@ found-faulty sought r sequence n entry slot fault (inr wrong) = rw (wrong.1.0, w
 -- an extent that the entries among the items name is the name, or one was before
 unfoldable pub items_have : Bool → Sought → ℕ → ℕ → List (Slot (Located (Laid (List ℕ)))) → List (Result Listed BadEntry) → Bool
 items_have before sought r sequence slots items =
-    have_sought before sought (all_found r sequence slots (filter (lists file_name_kind []) (right_entries items)))
-
-right-first : (entry : Listed) (right : List Listed) (rest : Result (List Listed) BadEntry) (entries : List Listed) → ((others : List Listed) → rest ≡ Ok others → right ≡ others)
-    → result_map_both (λ xs. entry ∷ xs) (λ (e : BadEntry). e) rest ≡ Ok entries → entry ∷ right ≡ entries
-right-first entry right (Ok others) entries more is =
-    let same : ◌≡◌ {A = Result (List Listed) BadEntry} (Ok (entry ∷ others)) (Ok entries) = is in
-    let whole : entry ∷ others ≡ entries = cc in
-    ap (λ xs. entry ∷ xs) (more others refl) ∙ whole
-right-first entry right (Err fault) entries more is = let same : ◌≡◌ {A = Result (List Listed) BadEntry} (Err fault) (Ok entries) = is in absurd cc
-
-right-all : (items : List (Result Listed BadEntry)) (entries : List Listed) → all_or_first items ≡ Ok entries → right_entries items ≡ entries
-right-all [] entries is = let here : ◌≡◌ {A = Result (List Listed) BadEntry} (Ok []) (Ok entries) = is in cc
-right-all (Ok entry ∷ items) entries is = right-first entry (right_entries items) (all_or_first items) entries (right-all items) is
-right-all (Err fault ∷ items) entries is = let here : ◌≡◌ {A = Result (List Listed) BadEntry} (Err fault) (Ok entries) = is in absurd cc
+    have_sought before sought (all_found r sequence slots (filter (lists file_name_kind []) (good_entries items)))
 
 good-step : (sought : Sought) (r sequence : ℕ) (slots : List (Slot (Located (Laid (List ℕ))))) (items : List (Result Listed BadEntry)) (entries : Result (List Listed) BadEntry) → all_or_first items ≡ entries → is_ok entries ≡ true
     → have_sought false sought (must (listing_of_entries entries).is_good (bad_list r) >>= (λ _. all_found r sequence slots (filter (lists file_name_kind []) (listing_of_entries entries).entries))) ≡ items_have false sought r sequence slots items
 unfolding items_have
-good-step sought r sequence slots items (Ok entries) is good = ap (λ es. have_sought false sought (all_found r sequence slots (filter (lists file_name_kind []) es))) (sym (right-all items entries is))
+good-step sought r sequence slots items (Ok entries) is good = ap (λ es. have_sought false sought (all_found r sequence slots (filter (lists file_name_kind []) es))) (sym (good-all items entries is))
 good-step sought r sequence slots items (Err fault) is good = absurd cc
 
 -- all items are entries
@@ -147,24 +134,24 @@ items-unread sought r sequence slots = refl
 
 module _ (before : Bool) (sought : Sought) (r sequence : ℕ) (slots : List (Slot (Located (Laid (List ℕ))))) (items rest : List (Result Listed BadEntry)) where
   pub items-end : items ≡ [] → items_have before sought r sequence slots items ≡ before
-  unfolding items_have all_found
-  items-end none = ap (λ (xs : List (Result Listed BadEntry)). have_sought before sought (all_found r sequence slots (filter (lists file_name_kind []) (right_entries xs)))) none ∙ or-none before
+  unfolding items_have all_found good_entries
+  items-end none = ap (λ (xs : List (Result Listed BadEntry)). have_sought before sought (all_found r sequence slots (filter (lists file_name_kind []) (good_entries xs)))) none ∙ or-none before
     where
       or-none : (b : Bool) → (b || false) ≡ b
       or-none true = refl
       or-none false = refl
 
   pub items-fault : (fault : BadEntry) → items ≡ Err fault ∷ rest → items_have before sought r sequence slots items ≡ items_have before sought r sequence slots rest
-  unfolding items_have
-  items-fault fault is = ap (λ (xs : List (Result Listed BadEntry)). have_sought before sought (all_found r sequence slots (filter (lists file_name_kind []) (right_entries xs)))) is
+  unfolding items_have good_entries
+  items-fault fault is = ap (λ (xs : List (Result Listed BadEntry)). have_sought before sought (all_found r sequence slots (filter (lists file_name_kind []) (good_entries xs)))) is
 
   abbrev first_by : Listed → Bool → Bool
   first_by entry listed =
-      have_sought before sought (all_found r sequence slots (if listed then entry ∷ filter (lists file_name_kind []) (right_entries rest) else filter (lists file_name_kind []) (right_entries rest)))
+      have_sought before sought (all_found r sequence slots (if listed then entry ∷ filter (lists file_name_kind []) (good_entries rest) else filter (lists file_name_kind []) (good_entries rest)))
 
   items-first : (entry : Listed) → items ≡ Ok entry ∷ rest → items_have before sought r sequence slots items ≡ first_by entry (lists file_name_kind [] entry)
-  unfolding items_have
-  items-first entry is = ap (λ (xs : List (Result Listed BadEntry)). have_sought before sought (all_found r sequence slots (filter (lists file_name_kind []) (right_entries xs)))) is
+  unfolding items_have good_entries
+  items-first entry is = ap (λ (xs : List (Result Listed BadEntry)). have_sought before sought (all_found r sequence slots (filter (lists file_name_kind []) (good_entries xs)))) is
 
   pub items-other : (entry : Listed) (listed : Bool) → items ≡ Ok entry ∷ rest → listed ≡ lists file_name_kind [] entry → listed ≡ false
       → items_have before sought r sequence slots items ≡ items_have before sought r sequence slots rest
@@ -194,11 +181,11 @@ module _ (before : Bool) (sought : Sought) (r sequence : ℕ) (slots : List (Slo
   unfolding all_found
   items-missing entry listed is same holds none =
       items-first entry is ∙ ap (first_by entry) (sym same ∙ holds)
-      ∙ missing-step (found_in r sequence entry (slot_at slots (target entry.reference))) (all_found r sequence slots (filter (lists file_name_kind []) (right_entries rest))) none
+      ∙ missing-step (found_in r sequence entry (slot_at slots (target entry.reference))) (all_found r sequence slots (filter (lists file_name_kind []) (good_entries rest))) none
 
   pub items-given : (entry : Listed) (listed shows : Bool) → items ≡ Ok entry ∷ rest → listed ≡ lists file_name_kind [] entry → listed ≡ true
       → Some shows ≡ shown_by sought (found_in r sequence entry (slot_at slots (target entry.reference))) → items_have before sought r sequence slots items ≡ items_have (before || shows) sought r sequence slots rest
   unfolding all_found items_have
   items-given entry listed shows is same holds some =
       items-first entry is ∙ ap (first_by entry) (sym same ∙ holds)
-      ∙ given-step (found_in r sequence entry (slot_at slots (target entry.reference))) (all_found r sequence slots (filter (lists file_name_kind []) (right_entries rest))) shows some
+      ∙ given-step (found_in r sequence entry (slot_at slots (target entry.reference))) (all_found r sequence slots (filter (lists file_name_kind []) (good_entries rest))) shows some

@@ -11,12 +11,12 @@ use Rattle.std.specs.Str.{bytes_eq}
 use Rattle.std.specs.declared.cmp.Ordering.{Ordering}
 use Rattle.std.specs.declared.cmp.Ordering.TheVariants.{Less, Equal, Greater}
 use Rattle.ntfs_base.proofs.ShelfLemmas.{same_name}
-use Rattle.ntfs_check_directories.specs.Row.{may_come, may_follow, row_behind, row_of, stands_in}
+use Rattle.ntfs_check_directories.specs.Row.{may_come, name_may_follow, row_behind, row_of, stands_in}
 use Rattle.ntfs_directory.specs.Directory.{DirectoryWalk, only_refused}
 use Rattle.ntfs_directory.specs.Entries.{key_name}
 use Rattle.ntfs_directory.specs.State.{entry_before, whole}
 use Rattle.ntfs_index.specs.Node.{IndexEntry}
-use Rattle.ntfs_rules.specs.Directories.{are_ascending, are_distinct, is_ordered, name_of, names_in}
+use Rattle.ntfs_rules.specs.Directories.{are_ascending, are_distinct_names, is_ordered, name_of, names_in}
 use Rattle.ntfs_upcase.proofs.CollationLemmas.{collate-total}
 use Rattle.ntfs_upcase.specs.Collation.{collate}
 use Rattle.ntfs_volume.specs.declared.fault.VolumeFault.{VolumeFault}
@@ -53,42 +53,42 @@ stands-among x name xs names is =
 
 -- a name that stands among others comes again
 repeated-step : (x name : List ℕ) (xs names : List (List ℕ)) (same : Bool) → bytes_eq x name ≡ same → (same || stands_in xs name) ≡ true
-    → (stands_in xs name ≡ true → are_distinct (xs ++ name ∷ names) ≡ false) → (not (list_any (bytes_eq x) (xs ++ name ∷ names)) && are_distinct (xs ++ name ∷ names)) ≡ false
-repeated-step x name xs names true is stands rest = ap (λ b. not b && are_distinct (xs ++ name ∷ names)) (stands-among x name xs names is)
+    → (stands_in xs name ≡ true → are_distinct_names (xs ++ name ∷ names) ≡ false) → (not (list_any (bytes_eq x) (xs ++ name ∷ names)) && are_distinct_names (xs ++ name ∷ names)) ≡ false
+repeated-step x name xs names true is stands rest = ap (λ b. not b && are_distinct_names (xs ++ name ∷ names)) (stands-among x name xs names is)
 repeated-step x name xs names false is stands rest =
     ap (λ b. not (list_any (bytes_eq x) (xs ++ name ∷ names)) && b) (rest stands) ∙ and-none (not (list_any (bytes_eq x) (xs ++ name ∷ names)))
 
-repeated : (xs : List (List ℕ)) (name : List ℕ) (names : List (List ℕ)) → stands_in xs name ≡ true → are_distinct (xs ++ name ∷ names) ≡ false
-unfolding are_distinct
+repeated : (xs : List (List ℕ)) (name : List ℕ) (names : List (List ℕ)) → stands_in xs name ≡ true → are_distinct_names (xs ++ name ∷ names) ≡ false
+unfolding are_distinct_names
 repeated [] name names stands = absurd cc
 repeated (x ∷ xs) name names stands = repeated-step x name xs names (bytes_eq x name) refl stands (repeated xs name names)
 
 -- one more that doesn't stand among them
-distinct-more : (xs : List (List ℕ)) (name : List ℕ) → are_distinct xs ≡ true → stands_in xs name ≡ false → are_distinct (xs ++ name ∷ []) ≡ true
-unfolding are_distinct
+distinct-more : (xs : List (List ℕ)) (name : List ℕ) → are_distinct_names xs ≡ true → stands_in xs name ≡ false → are_distinct_names (xs ++ name ∷ []) ≡ true
+unfolding are_distinct_names
 distinct-more [] name distinct stands = refl
 distinct-more (x ∷ xs) name distinct stands =
-    let parts = and_parts (not (list_any (bytes_eq x) xs)) (are_distinct xs) distinct in
+    let parts = and_parts (not (list_any (bytes_eq x) xs)) (are_distinct_names xs) distinct in
     let other = or-parts (bytes_eq x name) (stands_in xs name) stands in
-    ap (λ b. not b && are_distinct (xs ++ name ∷ [])) (list_any-append (bytes_eq x) xs (name ∷ []))
-    ∙ ap (λ b. not (list_any (bytes_eq x) xs || (b || false)) && are_distinct (xs ++ name ∷ [])) other.0
-    ∙ ap (λ b. not b && are_distinct (xs ++ name ∷ [])) (or-none (list_any (bytes_eq x) xs))
-    ∙ ap (λ b. b && are_distinct (xs ++ name ∷ [])) parts.0
+    ap (λ b. not b && are_distinct_names (xs ++ name ∷ [])) (list_any-append (bytes_eq x) xs (name ∷ []))
+    ∙ ap (λ b. not (list_any (bytes_eq x) xs || (b || false)) && are_distinct_names (xs ++ name ∷ [])) other.0
+    ∙ ap (λ b. not b && are_distinct_names (xs ++ name ∷ [])) (or-none (list_any (bytes_eq x) xs))
+    ∙ ap (λ b. b && are_distinct_names (xs ++ name ∷ [])) parts.0
     ∙ distinct-more xs name parts.1 other.1
 
 -- none of the first stands among the last
 abbrev Apart : List (List ℕ) → List (List ℕ) → Type 0
 Apart xs ys = AllByRecursion (λ x. list_any (bytes_eq x) ys ≡ false) xs
 
-distinct-apart : (xs ys : List (List ℕ)) → are_distinct xs ≡ true → Apart xs ys → are_distinct (xs ++ ys) ≡ are_distinct ys
-unfolding are_distinct
+distinct-apart : (xs ys : List (List ℕ)) → are_distinct_names xs ≡ true → Apart xs ys → are_distinct_names (xs ++ ys) ≡ are_distinct_names ys
+unfolding are_distinct_names
 distinct-apart [] ys distinct apart = refl
 distinct-apart (x ∷ xs) ys distinct apart =
-    let parts = and_parts (not (list_any (bytes_eq x) xs)) (are_distinct xs) distinct in
-    ap (λ b. not b && are_distinct (xs ++ ys)) (list_any-append (bytes_eq x) xs ys)
-    ∙ ap (λ b. not (list_any (bytes_eq x) xs || b) && are_distinct (xs ++ ys)) apart.0
-    ∙ ap (λ b. not b && are_distinct (xs ++ ys)) (or-none (list_any (bytes_eq x) xs))
-    ∙ ap (λ b. b && are_distinct (xs ++ ys)) parts.0
+    let parts = and_parts (not (list_any (bytes_eq x) xs)) (are_distinct_names xs) distinct in
+    ap (λ b. not b && are_distinct_names (xs ++ ys)) (list_any-append (bytes_eq x) xs ys)
+    ∙ ap (λ b. not (list_any (bytes_eq x) xs || b) && are_distinct_names (xs ++ ys)) apart.0
+    ∙ ap (λ b. not b && are_distinct_names (xs ++ ys)) (or-none (list_any (bytes_eq x) xs))
+    ∙ ap (λ b. b && are_distinct_names (xs ++ ys)) parts.0
     ∙ distinct-apart xs ys parts.1 apart.1
 
 -- ---- names that ascend
@@ -122,7 +122,7 @@ Tie table (first ∷ row) = AllByRecursion (λ other. collate table first other 
 -- a row of names that tie, none twice
 pub record IsRow (table : List ℕ) (row : List (List ℕ)) : Type 0 where
   pub tie : Tie table row
-  pub distinct : are_distinct row ≡ true
+  pub distinct : are_distinct_names row ≡ true
 
 -- names ascend behind a row
 abbrev ascend_behind : List ℕ → List (List ℕ) → List (List ℕ) → Bool
@@ -132,10 +132,10 @@ ascend_behind table (first ∷ row) names = are_ascending table (first ∷ names
 -- what is left of a walk is whole, and its names ascend behind a row, none twice
 unfoldable pub ordered_behind : List ℕ → List (List ℕ) → DirectoryWalk → Bool
 ordered_behind table row walk =
-    not (is_some walk.fault) && (ascend_behind table row (names_in walk.entries) && are_distinct (row ++ names_in walk.entries))
+    not (is_some walk.fault) && (ascend_behind table row (names_in walk.entries) && are_distinct_names (row ++ names_in walk.entries))
 
 pub row-none : (table : List ℕ) → IsRow table []
-unfolding are_distinct
+unfolding are_distinct_names
 row-none table = record { tie = tt; distinct = refl }
 
 pub ordered-start : (table : List ℕ) (walk : DirectoryWalk) → ordered_behind table [] walk ≡ is_ordered table walk
@@ -149,7 +149,7 @@ ordered-fault table row fault = refl
 pub ordered-end : (table : List ℕ) (row : List (List ℕ)) → IsRow table row → ordered_behind table row whole ≡ true
 unfolding ordered_behind are_ascending
 ordered-end table [] is = is.distinct
-ordered-end table (first ∷ row) is = ap are_distinct (append-nil (first ∷ row)) ∙ is.distinct
+ordered-end table (first ∷ row) is = ap are_distinct_names (append-nil (first ∷ row)) ∙ is.distinct
 
 -- ---- one name more
 
@@ -166,20 +166,20 @@ refused-double false true distinct is = is
 refused-double false false distinct is = refl
 
 -- a name that may not follow
-pub ordered-refused : (table : List ℕ) (row : List (List ℕ)) (entry : IndexEntry) (walk : DirectoryWalk) → may_follow table row (name_of entry.key) ≡ false → ordered_behind table row (entry_before entry walk) ≡ false
-unfolding ordered_behind may_follow are_ascending
+pub ordered-refused : (table : List ℕ) (row : List (List ℕ)) (entry : IndexEntry) (walk : DirectoryWalk) → name_may_follow table row (name_of entry.key) ≡ false → ordered_behind table row (entry_before entry walk) ≡ false
+unfolding ordered_behind name_may_follow are_ascending
 ordered-refused table [] entry walk may = absurd cc
 ordered-refused table (first ∷ row) entry walk may = go (collate table first (name_of entry.key)) refl may
   where
     go : (order : Ordering) → collate table first (name_of entry.key) ≡ order → may_come order (stands_in (first ∷ row) (name_of entry.key)) ≡ false
         → no_more (is_some walk.fault) (not (is_gt (collate table first (name_of entry.key))) && are_ascending table (name_of entry.key ∷ names_in walk.entries))
-        (are_distinct (first ∷ (row ++ name_of entry.key ∷ names_in walk.entries))) ≡ false
+        (are_distinct_names (first ∷ (row ++ name_of entry.key ∷ names_in walk.entries))) ≡ false
     go Less is may = absurd cc
     go Equal is may =
-        refused-double (is_some walk.fault) (not (is_gt (collate table first (name_of entry.key))) && are_ascending table (name_of entry.key ∷ names_in walk.entries)) (are_distinct (first ∷ (row ++ name_of entry.key ∷ names_in walk.entries)))
+        refused-double (is_some walk.fault) (not (is_gt (collate table first (name_of entry.key))) && are_ascending table (name_of entry.key ∷ names_in walk.entries)) (are_distinct_names (first ∷ (row ++ name_of entry.key ∷ names_in walk.entries)))
         (repeated (first ∷ row) (name_of entry.key) (names_in walk.entries) (not-false (stands_in (first ∷ row) (name_of entry.key)) may))
     go Greater is may =
-        refused-wrong (is_some walk.fault) (not (is_gt (collate table first (name_of entry.key))) && are_ascending table (name_of entry.key ∷ names_in walk.entries)) (are_distinct (first ∷ (row ++ name_of entry.key ∷ names_in walk.entries)))
+        refused-wrong (is_some walk.fault) (not (is_gt (collate table first (name_of entry.key))) && are_ascending table (name_of entry.key ∷ names_in walk.entries)) (are_distinct_names (first ∷ (row ++ name_of entry.key ∷ names_in walk.entries)))
         (ap (λ (order : Ordering). not (is_gt order) && are_ascending table (name_of entry.key ∷ names_in walk.entries)) is)
 
 tied-with : (table : List ℕ) (first : List ℕ) (row : List (List ℕ)) → Tie table (first ∷ row) → AllByRecursion (λ other. collate table first other ≡ Equal) (first ∷ row)
@@ -201,7 +201,7 @@ apart-all table first (x ∷ xs) names tie less = (apart-one table first x names
 
 -- where the names ascend a row that lies before them plays no part
 ascending-drops : (table first name : List ℕ) (row names : List (List ℕ)) (fault ascend : Bool) → IsRow table (first ∷ row) → collate table first name ≡ Less → are_ascending table (name ∷ names) ≡ ascend
-    → no_more fault ascend (are_distinct (first ∷ row ++ name ∷ names)) ≡ no_more fault ascend (are_distinct (name ∷ names))
+    → no_more fault ascend (are_distinct_names (first ∷ row ++ name ∷ names)) ≡ no_more fault ascend (are_distinct_names (name ∷ names))
 ascending-drops table first name row names fault false is less ascends = refl
 ascending-drops table first name row names fault true is less ascends =
     ap (λ b. no_more fault true b) (distinct-apart (first ∷ row) (name ∷ names) is.distinct
@@ -219,30 +219,30 @@ pub record IsTaken (table : List ℕ) (row : List (List ℕ)) (entry : IndexEntr
 taken-by : (table first : List ℕ) (row : List (List ℕ)) (entry : IndexEntry) (walk : DirectoryWalk) (order : Ordering) → collate table first (name_of entry.key) ≡ order → IsRow table (first ∷ row)
     → may_come order (stands_in (first ∷ row) (name_of entry.key)) ≡ true
     → IsRow table (row_behind order (first ∷ row) (name_of entry.key)) × (ordered_behind table (first ∷ row) (entry_before entry walk) ≡ ordered_behind table (row_behind order (first ∷ row) (name_of entry.key)) walk)
-unfolding ordered_behind are_ascending are_distinct
+unfolding ordered_behind are_ascending are_distinct_names
 taken-by table first row entry walk Less order is may = (
   record { tie = tt; distinct = refl },
-  ap (λ (o : Ordering). no_more (is_some walk.fault) (not (is_gt o) && are_ascending table (name_of entry.key ∷ names_in walk.entries)) (are_distinct (first ∷ row ++ name_of entry.key ∷ names_in walk.entries))) order
+  ap (λ (o : Ordering). no_more (is_some walk.fault) (not (is_gt o) && are_ascending table (name_of entry.key ∷ names_in walk.entries)) (are_distinct_names (first ∷ row ++ name_of entry.key ∷ names_in walk.entries))) order
       ∙ ascending-drops table first (name_of entry.key) row (names_in walk.entries) (is_some walk.fault) (are_ascending table (name_of entry.key ∷ names_in walk.entries)) is order refl,
 )
 taken-by table first row entry walk Equal order is may = (
   record { tie = all-more (λ other. collate table first other ≡ Equal) row (name_of entry.key) is.tie order; distinct = distinct-more (first ∷ row) (name_of entry.key) is.distinct (not-true (stands_in (first ∷ row) (name_of entry.key)) may) },
-  ap (λ (o : Ordering). no_more (is_some walk.fault) (not (is_gt o) && are_ascending table (name_of entry.key ∷ names_in walk.entries)) (are_distinct (first ∷ row ++ name_of entry.key ∷ names_in walk.entries))) order
-      ∙ ap (λ b. no_more (is_some walk.fault) b (are_distinct (first ∷ row ++ name_of entry.key ∷ names_in walk.entries))) (sym (ascending-alike table first (name_of entry.key) (names_in walk.entries) order))
-      ∙ ap (λ (xs : List (List ℕ)). no_more (is_some walk.fault) (are_ascending table (first ∷ names_in walk.entries)) (are_distinct xs)) (sym (append_assoc (first ∷ row) (name_of entry.key ∷ []) (names_in walk.entries))),
+  ap (λ (o : Ordering). no_more (is_some walk.fault) (not (is_gt o) && are_ascending table (name_of entry.key ∷ names_in walk.entries)) (are_distinct_names (first ∷ row ++ name_of entry.key ∷ names_in walk.entries))) order
+      ∙ ap (λ b. no_more (is_some walk.fault) b (are_distinct_names (first ∷ row ++ name_of entry.key ∷ names_in walk.entries))) (sym (ascending-alike table first (name_of entry.key) (names_in walk.entries) order))
+      ∙ ap (λ (xs : List (List ℕ)). no_more (is_some walk.fault) (are_ascending table (first ∷ names_in walk.entries)) (are_distinct_names xs)) (sym (append_assoc (first ∷ row) (name_of entry.key ∷ []) (names_in walk.entries))),
 )
 taken-by table first row entry walk Greater order is may = absurd cc
 
 row-one : (table name : List ℕ) → IsRow table (name ∷ [])
-unfolding are_distinct
+unfolding are_distinct_names
 row-one table name = record { tie = tt; distinct = refl }
 
 ordered-one : (table : List ℕ) (entry : IndexEntry) (walk : DirectoryWalk) → ordered_behind table [] (entry_before entry walk) ≡ ordered_behind table (name_of entry.key ∷ []) walk
 unfolding ordered_behind
 ordered-one table entry walk = refl
 
-pub ordered-taken : (table : List ℕ) (row : List (List ℕ)) (entry : IndexEntry) (walk : DirectoryWalk) → IsRow table row → may_follow table row (name_of entry.key) ≡ true → IsTaken table row entry walk
-unfolding may_follow row_of
+pub ordered-taken : (table : List ℕ) (row : List (List ℕ)) (entry : IndexEntry) (walk : DirectoryWalk) → IsRow table row → name_may_follow table row (name_of entry.key) ≡ true → IsTaken table row entry walk
+unfolding name_may_follow row_of
 ordered-taken table [] entry walk is may = record { is = row-one table (name_of entry.key); same = ordered-one table entry walk }
 ordered-taken table (first ∷ row) entry walk is may =
     let both = taken-by table first row entry walk (collate table first (name_of entry.key)) refl is may in record { is = both.0; same = both.1 }

@@ -7,8 +7,9 @@ use Rattle.ntfs_base.specs.Bytes.{cluster_at}
 use Rattle.ntfs_base.specs.Frames.{Gives}
 use Rattle.ntfs_base.specs.declared.refusal.Rule.TheVariants as rule
 use Rattle.ntfs_boot.specs.declared.geometry.Geometry.{Geometry}
-use Rattle.ntfs_check_directories.proofs.AskedLemmas.{slot-mapped}
-use Rattle.ntfs_check_directories.specs.Asked.{first_refused, first_unordered, passes_asked}
+use Rattle.ntfs_check_records.proofs.RecordLemmas.{slot-mapped}
+use Rattle.ntfs_check_records.specs.Asked.{first_refused, passes_asked}
+use Rattle.ntfs_check_directories.specs.Asked.{directory_answer, first_unordered}
 use Rattle.ntfs_check_directories.specs.Names.{all_lead, records_in}
 use Rattle.ntfs_check_directories.specs.declared.asked.Asked.TheVariants as asked
 use Rattle.ntfs_directory.proofs.LawLemmas.{walk-begins, walk-refused}
@@ -89,8 +90,8 @@ slot-content : (o : Opened) (f : ℕ → List ℕ) (n : ℕ) → slot_at (conten
 unfolding with_cells
 slot-content o f n =
     ap (λ (slots : Records (List ℕ)). slot_at slots n) (contents-are o f)
-    ∙ slot-mapped (in_located (λ place. 0) f) 0 (map_slots (on_payload (map_located (map_laid (cells_below o.geometry.clusters)))) 0 (slots_of o.geometry o.map f)) n
-    ∙ ap (map_slot (on_payload (in_located (λ place. 0) f) 0)) (slot-mapped (map_located (map_laid (cells_below o.geometry.clusters))) 0 (slots_of o.geometry o.map f) n)
+    ∙ slot-mapped (in_located (λ place. 0) f) 0 n (map_slots (on_payload (map_located (map_laid (cells_below o.geometry.clusters)))) 0 (slots_of o.geometry o.map f))
+    ∙ ap (map_slot (on_payload (in_located (λ place. 0) f) 0)) (slot-mapped (map_located (map_laid (cells_below o.geometry.clusters))) 0 n (slots_of o.geometry o.map f))
 
 any-same : {P Q : Type 0} (sought : ℕ → ℕ → List ℕ → List ℕ → Bool) (d sequence : ℕ) (key : List ℕ) (f : P → Q) (found : List (Extent P))
     → list_any (λ (e : Extent Q). e.attribute.face.is_resident && sought d sequence key e.attribute.face.value) (map (mapped (on_payload f)) found)
@@ -141,7 +142,7 @@ led-as : (o : Opened) (content : List ℕ) (r : ℕ) (s : Slot (Located (Laid (L
     → (not s.is_live || (not (is_directory (with_content o.geometry.clusters (cluster_at content o.geometry.cluster) r s))
     || list_all (leads_to_name (listings (volume_data o (cluster_at content o.geometry.cluster))) (contents (volume_data o (cluster_at content o.geometry.cluster))) r s.head.sequence)
     (walk_of o.geometry (listings (volume_data o (cluster_at content o.geometry.cluster))) (contents (volume_data o (cluster_at content o.geometry.cluster))) r).entries))
-    ≡ passes_asked o content asked.Names r s
+    ≡ passes_asked (directory_answer asked.Names o content) r s
 unfolding has_directory_flag all_lead
 led-as o content r s =
     let v = volume_data o (cluster_at content o.geometry.cluster) in
@@ -150,10 +151,10 @@ led-as o content r s =
     (all-same (leads_to_name (listings v) (contents v) r s.head.sequence) (leads_to_name (lists o content) (records_in o content) r s.head.sequence) (directory_walk o.geometry o.map content r).entries
     (leads-content o content r s.head.sequence))
 
-c14-by : (o : Opened) (content : List ℕ) → (let v = volume_data o (cluster_at content o.geometry.cluster) in c14 v.geometry (listings v) (contents v)) ≡ first_refused o content asked.Names
+c14-by : (o : Opened) (content : List ℕ) → (let v = volume_data o (cluster_at content o.geometry.cluster) in c14 v.geometry (listings v) (contents v)) ≡ first_refused (directory_answer asked.Names o content) o (cluster_at content o.geometry.cluster)
 unfolding c14 volume_data
-c14-by o content = contents-first o (cluster_at content o.geometry.cluster) _ (passes_asked o content asked.Names) (led-as o content)
+c14-by o content = contents-first o (cluster_at content o.geometry.cluster) _ (passes_asked (directory_answer asked.Names o content)) (led-as o content)
 
-pub names-given : (o : Opened) (content : List ℕ) (result : Result (Unit {0}) CheckFault) → Gives check_origin (λ done. done) (unless_number rule.C14 (first_refused o content asked.Names) tt) result
+pub names-given : (o : Opened) (content : List ℕ) (result : Result (Unit {0}) CheckFault) → Gives check_origin (λ done. done) (unless_number rule.C14 (first_refused (directory_answer asked.Names o content) o (cluster_at content o.geometry.cluster)) tt) result
     → (let v = volume_data o (cluster_at content o.geometry.cluster) in Gives check_origin (λ done. done) (unless_number rule.C14 (c14 v.geometry (listings v) (contents v)) tt) result)
 names-given o content result = subst (λ (found : Option ℕ). Gives check_origin (λ done. done) (unless_number rule.C14 found tt) result) (sym (c14-by o content))

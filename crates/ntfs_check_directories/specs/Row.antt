@@ -27,8 +27,8 @@ may_come Equal stands = not stands
 may_come Greater stands = false
 
 -- a name may follow a row: it doesn't come before it, and isn't one of its names
-unfoldable pub may_follow : List ℕ → List (List ℕ) → List ℕ → Bool
-may_follow table row name = may_come (order_behind table row name) (stands_in row name)
+unfoldable pub name_may_follow : List ℕ → List (List ℕ) → List ℕ → Bool
+name_may_follow table row name = may_come (order_behind table row name) (stands_in row name)
 
 -- the row in which a name stands that comes in this order behind another row
 abbrev pub row_behind : Ordering → List (List ℕ) → List ℕ → List (List ℕ)

@@ -1,18 +1,16 @@
 //! Questions about directories, one directory at a time.
 
-ghost use Rattle.std.specs.Prelude.{◌≡◌, ◌<◌, length, IfErr, IfOk};
-ghost use Rattle.ntfs_base.specs.Frames.{IfTold, IsSettled, OnlyReads};
-ghost use Rattle.ntfs_check_directories.specs.Asked.{asked_at, directory_said};
-ghost use Rattle.ntfs_check_directories.specs.Names.{records_in};
-ghost use Rattle.ntfs_rules.specs.Outcome.{check_origin};
-ghost use Rattle.ntfs_volume.specs.Located.{slot_at, sound_located};
-ghost use Rattle.ntfs_volume.specs.Opened.{HasClusters};
+ghost use Rattle.std.specs.Prelude.{◌≡◌, Some};
+ghost use Rattle.ntfs_check_directories.specs.Asked.{directory_said};
+ghost use Rattle.ntfs_fixup.specs.Fixups.{HasWholeStrides};
+ghost use Rattle.ntfs_volume.specs.Located.{located_slot, sound_located};
 
 use crate::leads::all_lead;
 use crate::order::is_ordered;
 use ntfs_base::Image;
-use ntfs_record::{RecordView, parse};
-use ntfs_rules::{CheckFault, cut_of};
+use ntfs_check_records::{Question, sound_record};
+use ntfs_record::RecordView;
+use ntfs_rules::CheckFault;
 use ntfs_upcase::UpCase;
 use ntfs_volume::Table;
 use std::alloc::Global;
@@ -38,55 +36,40 @@ fn directory_said(view: &RecordView<'_>) -> Option<u16>
     }
 }
 
-/// The sequence number of the record of a number, where it is a directory in use, through a buffer of one record.
-fn read_directory<G: Image>(
-    image: &mut G,
-    table: &Table,
-    number: u64,
-    block: &mut [u8],
-) -> Result<Option<u16>, CheckFault>
-    requires held { HasClusters (G.seen image.old).size table.now }
-    requires sized { 0 < table.now.geometry.record_size }
-    requires block { length block.old ≡ table.now.geometry.record_size }
-    ensures found { IfTold G.Image image.old (λ content. IfOk result (λ found.
-        found ≡ directory_said (slot_at (records_in table.now content) number))) }
-    ensures cut { IfErr result (λ fault. IsSettled (check_origin fault) → ⊥) }
-    ensures reads { OnlyReads G.Image check_origin image.old image.new result }
+/// The sequence number of the record of a number, which has these bytes, where it is a directory in use. The bytes hold
+/// anything afterwards.
+fn directory_in(number: u64, raw: &mut [u8]) -> Option<u16>
+    requires { HasWholeStrides raw.old }
+    ensures { result ≡ directory_said (located_slot number (Some raw.old)) }
 {
-    match table.read_record(image, number, block) {
-        Err(fault) => match cut_of(fault) {
-            Some(cut) => Err(cut),
-            None => Ok(None),
-        },
-        Ok(()) => match parse(block) {
-            Err(_) => Ok(None),
-            Ok(view) => Ok(directory_said(&view)),
-        },
+    match sound_record(number, raw) {
+        None => None,
+        Some(view) => directory_said(&view),
     }
 }
 
-/// The answer of the record of a number, through a buffer of one record.
-pub(crate) fn passes<G: Image>(
-    alloc: Global,
-    image: &mut G,
-    table: &Table,
-    asked: &Asked<'_>,
-    number: u64,
-    block: &mut [u8],
-) -> Result<bool, CheckFault>
-    requires held { HasClusters (G.seen image.old).size table.now }
-    requires sized { 0 < table.now.geometry.record_size }
-    requires block { length block.old ≡ table.now.geometry.record_size }
-    ensures found { IfTold G.Image image.old (λ content. IfOk result (λ is.
-        is ≡ asked_at table.now content asked.now number)) }
-    ensures cut { IfErr result (λ fault. IsSettled (check_origin fault) → ⊥) }
-    ensures reads { OnlyReads G.Image check_origin image.old image.new result }
-{
-    match read_directory(image, table, number, block)? {
-        None => Ok(true),
-        Some(sequence) => match asked {
-            Asked::Order { upper } => is_ordered(alloc, image, table, upper, number),
-            Asked::Names => all_lead(alloc, image, table, number, sequence, block),
-        },
+impl<'a> Question for Asked<'a> {
+    ghost use Rattle.std.specs.Prelude.{⊤};
+    ghost use Rattle.ntfs_check_directories.specs.Asked.{directory_answer};
+
+    ghost presumes = { λ asked o content. ⊤ };
+
+    ghost answer = { λ asked o content. directory_answer asked o content };
+
+    fn passes<G: Image>(
+        &self,
+        alloc: Global,
+        image: &mut G,
+        table: &Table,
+        number: u64,
+        raw: &mut [u8],
+    ) -> Result<bool, CheckFault> {
+        match directory_in(number, raw) {
+            None => Ok(true),
+            Some(sequence) => match self {
+                Asked::Order { upper } => is_ordered(alloc, image, table, upper, number),
+                Asked::Names => all_lead(alloc, image, table, number, sequence, raw),
+            },
+        }
     }
 }

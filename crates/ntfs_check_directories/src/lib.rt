@@ -9,7 +9,6 @@ mod name;
 mod order;
 mod row;
 mod rules;
-mod search;
 
 pub use rules::{check_names_of_entries, check_orders};
 

@@ -1,7 +1,7 @@
 //! Names in their order: those that tie stand in a row.
 
 ghost use Rattle.std.specs.Prelude.{◌≡◌, [], true, IfOk};
-ghost use Rattle.ntfs_check_directories.specs.Row.{may_follow, names_in_row, order_behind, row_of, stands_in};
+ghost use Rattle.ntfs_check_directories.specs.Row.{name_may_follow, names_in_row, order_behind, row_of, stands_in};
 
 use ntfs_upcase::UpCase;
 use std::alloc::{AllocError, Global};
@@ -64,14 +64,14 @@ impl Row {
 
     /// Whether a name may follow: it then stands in the row, alone where it comes after the others. Else the row holds
     /// anything.
-    #[tactic(auto, unfolding(crate::specs::Row::may_follow, crate::specs::Row::row_of))]
+    #[tactic(auto, unfolding(crate::specs::Row::name_may_follow, crate::specs::Row::row_of))]
     pub(crate) fn take(
         &mut self,
         alloc: Global,
         upper: &UpCase,
         name: &[u8],
     ) -> Result<bool, AllocError>
-        ensures may { IfOk result (λ is. is ≡ may_follow upper.now self.old name.now) }
+        ensures may { IfOk result (λ is. is ≡ name_may_follow upper.now self.old name.now) }
         ensures row { IfOk result (λ is. is ≡ true → self.new ≡ row_of upper.now self.old name.now) }
     {
         match self.order_behind(upper, name) {

@@ -4,15 +4,15 @@ ghost use Rattle.std.specs.Prelude.{◌≡◌};
 ghost use Rattle.ntfs_base.specs.Bytes.{cluster_at};
 ghost use Rattle.ntfs_base.specs.Frames.{Gives, IfTold, OnlyReads};
 ghost use Rattle.ntfs_base.specs.declared.refusal.Rule.TheVariants as rule;
-ghost use Rattle.ntfs_check_directories.specs.Asked.{first_refused, first_unordered};
+ghost use Rattle.ntfs_check_directories.specs.Asked.{first_unordered};
 ghost use Rattle.ntfs_rules.specs.Directories.{c13, c14};
 ghost use Rattle.ntfs_rules.specs.Outcome.{check_origin, unless_number};
 ghost use Rattle.ntfs_rules.specs.VolumeData.{contents, listings, volume_data};
 ghost use Rattle.ntfs_volume.specs.Opened.{HasClusters};
 
 use crate::asked::Asked;
-use crate::search::first_failing;
 use ntfs_base::{Image, Rule};
+use ntfs_check_records::ask_all;
 use ntfs_directory::read_up_case;
 use ntfs_rules::{CheckFault, cut_of, damaged};
 use ntfs_upcase::UpCase;
@@ -21,26 +21,6 @@ use std::alloc::Global;
 
 /// The record of $UpCase.
 const UP_CASE: u64 = 10;
-
-/// Whether what is asked holds of all directories, or which is the first of which it doesn't: that one breaks a rule.
-fn ask_all<G: Image>(
-    alloc: Global,
-    image: &mut G,
-    table: &Table,
-    asked: &Asked<'_>,
-    rule: Rule,
-) -> Result<(), CheckFault>
-    requires held { HasClusters (G.seen image.old).size table.now }
-    ensures gives { IfTold G.Image image.old (λ content. Gives check_origin (λ done. done)
-        (unless_number rule (first_refused table.now content asked.now) tt) result) }
-    ensures reads { OnlyReads G.Image check_origin image.old image.new result }
-{
-    let found = first_failing(alloc, image, table, asked)?;
-    match found {
-        None => Ok(()),
-        Some(number) => Err(damaged(rule, number)),
-    }
-}
 
 /// The first directory that isn't in order under a table breaks rule C13.
 fn check_under<G: Image>(

@@ -1,15 +1,16 @@
 -- Rule C10.
 use Rattle.std.proofs.Common.{◌≡◌, ◌<◌, ◌==◌, ◌&&◌, ◌||◌, ℕ, Bool, true, false, List, Option, Some, None, refl, sym, ap, subst, ◌∙◌}
 use Rattle.std.specs.Prelude.{not}
-use Rattle.ntfs_check_files.proofs.RecordLemmas.{record-at, unread-idle, whole-at}
-use Rattle.ntfs_check_files.specs.Asked.{Presumes, PresumesLists, answer_of, asked_at, passes_asked, records_of}
+use Rattle.ntfs_check_records.proofs.RecordLemmas.{record-at, unread-idle, whole-at}
+use Rattle.ntfs_check_records.specs.Asked.{asked_at, passes_asked}
+use Rattle.ntfs_check_files.specs.Asked.{Presumes, PresumesLists, file_answer}
 use Rattle.std.specs.Borrow.{Bor}
 use Rattle.ntfs_check_files.proofs.FileLemmas.{listed-answer}
 use Rattle.ntfs_check_files.specs.Extending.{extending}
 use Rattle.ntfs_check_files.specs.Members.{matches_listing}
 use Rattle.ntfs_check_files.specs.declared.extensions.Extensions.{Extensions}
 use Rattle.ntfs_volume.specs.Gathering.{file_lists}
-use Rattle.ntfs_check_files.specs.Reading.{IsView, is_readable}
+use Rattle.ntfs_check_records.specs.Reading.{IsView, is_readable, records_of}
 use Rattle.ntfs_check_files.specs.declared.asked.Asked.{Asked}
 use Rattle.ntfs_check_files.specs.declared.asked.Asked.TheVariants as asked
 use Rattle.ntfs_record.specs.FileRecord.{FileRecord, Laid}
@@ -69,30 +70,30 @@ presumes-whole (asked.List extensions) o f is = is.whole
 
 -- it can't be read
 pub asked-idle : (o : Opened) (f : ℕ → List ℕ) (question : Asked) (n : ℕ) (raw : List ℕ) → Presumes question o f → 0 < o.geometry.record_size → raw_record o.geometry o.map f n ≡ Some raw
-    → is_readable (located_slot n (Some raw)) ≡ false → true ≡ asked_at question o f n
+    → is_readable (located_slot n (Some raw)) ≡ false → true ≡ asked_at (file_answer question o f) o f n
 asked-idle o f question n raw presumed some held unread =
     let is : is_readable (record_at o f n) ≡ false = ap (λ raw. is_readable (located_slot n raw)) held ∙ unread in
     let at : slot_at (records_of o f) n ≡ record_at o f n = record-at o f n some in
     let kept : is_whole (record_at o f n) ≡ true = ap (λ (s : Slot (Located (Laid (List ℕ)))). is_whole s) (sym at) ∙ whole-at (records_of o f) n (presumes-whole question o f presumed) in
     let idle : (record_at o f n).is_live ≡ false = unread-idle (record_at o f n) kept is in
-    sym (ap (λ b. not b || answer_of question o f n (record_at o f n)) idle)
+    sym (ap (λ b. not b || file_answer question o f n (record_at o f n)) idle)
 
 -- it says this
 pub asked-said : (o : Opened) (f : ℕ → List ℕ) (question : Asked) (n : ℕ) (raw : List ℕ) (said : FileRecord) → raw_record o.geometry o.map f n ≡ Some raw → located_slot n (Some raw) ≡ sound_located said
-    → answer_of question o f n (sound_located said) ≡ asked_at question o f n
+    → file_answer question o f n (sound_located said) ≡ asked_at (file_answer question o f) o f n
 asked-said o f question n raw said held is =
-    sym (ap (λ (s : Slot (Located (Laid (List ℕ)))). passes_asked question o f n s) (ap (located_slot n) held ∙ is))
+    sym (ap (λ (s : Slot (Located (Laid (List ℕ)))). passes_asked (file_answer question o f) n s) (ap (located_slot n) held ∙ is))
 
 pub base-asked : (o : Opened) (f : ℕ → List ℕ) (question : Asked) (n : ℕ) (said : FileRecord) → question ≡ asked.Base
-    → ((said.head.base == 0) || names_base (records_of o f) said.head.base) ≡ answer_of question o f n (sound_located said)
-unfolding answer_of
-base-asked o f question n said is = ap (λ (q : Asked). answer_of q o f n (sound_located said)) (sym is)
+    → ((said.head.base == 0) || names_base (records_of o f) said.head.base) ≡ file_answer question o f n (sound_located said)
+unfolding file_answer
+base-asked o f question n said is = ap (λ (q : Asked). file_answer q o f n (sound_located said)) (sym is)
 
 pub list-asked : (o : Opened) (f : ℕ → List ℕ) (question : Asked) (extensions : Bor Extensions) (n : ℕ) (raw : List ℕ) (said : FileRecord) → question ≡ asked.List extensions → Presumes question o f → 0 < o.geometry.record_size
     → raw_record o.geometry o.map f n ≡ Some raw → located_slot n (Some raw) ≡ sound_located said
-    → (not (said.head.base == 0) || matches_listing (records_of o f) n said (extending extensions.now n) (file_lists o.geometry f said)) ≡ answer_of question o f n (sound_located said)
-unfolding answer_of Presumes
+    → (not (said.head.base == 0) || matches_listing (records_of o f) n said (extending extensions.now n) (file_lists o.geometry f said)) ≡ file_answer question o f n (sound_located said)
+unfolding file_answer Presumes
 list-asked o f question extensions n raw said is presumed some held same =
     let presumes : PresumesLists o f extensions.now = subst (λ (q : Asked). Presumes q o f) is presumed in
     listed-answer o f n raw said extensions.now some presumes held same
-    ∙ ap (λ (q : Asked). answer_of q o f n (sound_located said)) (sym is)
+    ∙ ap (λ (q : Asked). file_answer q o f n (sound_located said)) (sym is)

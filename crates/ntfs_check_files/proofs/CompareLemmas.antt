@@ -5,21 +5,9 @@ use Rattle.std.proofs.lemmas.Bool.Decides.{nat_tests}
 use Rattle.ntfs_attrlist.specs.Entry.{Listed}
 use Rattle.ntfs_attrlist.specs.declared.fault.BadEntry.{BadEntry}
 use Rattle.ntfs_rules.specs.Files.{count_of}
-use Rattle.ntfs_check_files.specs.Members.{all_name, good_entries, is_named}
+use Rattle.ntfs_check_files.specs.Members.{all_name, names_kept}
 use Rattle.ntfs_check_files.specs.declared.members.Attribute.{Attribute as Kept}
 use Rattle.std.specs.List.{list_any}
-
-pub good-entry : (items rest : List (Result Listed BadEntry)) (entry : Listed) → items ≡ Ok entry ∷ rest → good_entries items ≡ entry ∷ good_entries rest
-unfolding good_entries
-good-entry items rest entry is = ap good_entries is
-
-pub good-fault : (items rest : List (Result Listed BadEntry)) (fault : BadEntry) → items ≡ Err fault ∷ rest → good_entries items ≡ good_entries rest
-unfolding good_entries
-good-fault items rest fault is = ap good_entries is
-
-pub good-end : (items : List (Result Listed BadEntry)) → items ≡ [] → good_entries items ≡ []
-unfolding good_entries
-good-end items is = ap good_entries is
 
 abbrev pub once : Bool → ℕ
 once found = if found then 1 else 0
@@ -61,10 +49,10 @@ no-more test xs false all none same = let zero_is : 0 + 0 ≡ all = ap (λ xs. 0
 
 -- ---- entries that name an attribute
 
-pub names-none : (xs rest : List Listed) (x : Listed) (kept : List Kept) (all : Bool) → xs ≡ x ∷ rest → list_any (is_named x) kept ≡ false → all_name xs kept ≡ all → false ≡ all
+pub names-none : (xs rest : List Listed) (x : Listed) (kept : List Kept) (all : Bool) → xs ≡ x ∷ rest → list_any (names_kept x) kept ≡ false → all_name xs kept ≡ all → false ≡ all
 names-none xs rest x kept all is none same = sym (ap (λ them. all_name them kept) is ∙ ap (λ b. b && all_name rest kept) none) ∙ same
 
-pub names-more : (xs rest : List Listed) (x : Listed) (kept : List Kept) (all : Bool) → xs ≡ x ∷ rest → list_any (is_named x) kept ≡ true → all_name xs kept ≡ all → all_name rest kept ≡ all
+pub names-more : (xs rest : List Listed) (x : Listed) (kept : List Kept) (all : Bool) → xs ≡ x ∷ rest → list_any (names_kept x) kept ≡ true → all_name xs kept ≡ all → all_name rest kept ≡ all
 names-more xs rest x kept all is one same = sym (ap (λ them. all_name them kept) is ∙ ap (λ b. b && all_name rest kept) one) ∙ same
 
 pub names-all : (xs : List Listed) (kept : List Kept) (all : Bool) → xs ≡ [] → all_name xs kept ≡ all → true ≡ all

@@ -6,8 +6,9 @@ use Rattle.std.proofs.lemmas.Bool.Decides.{nat_tests}
 use Rattle.ntfs_boot.specs.declared.geometry.Geometry.{Geometry}
 use Rattle.ntfs_check_files.proofs.ListedLemmas.{Known, base-by-number, file-alike, listed-alike, no-base, own_of, slots-long}
 use Rattle.ntfs_check_files.proofs.MemberLemmas.{own-said}
-use Rattle.ntfs_check_files.proofs.RecordLemmas.{each-passes, record-at, whole-at}
-use Rattle.ntfs_check_files.specs.Asked.{PresumesLists, records_of}
+use Rattle.ntfs_check_records.proofs.RecordLemmas.{each-passes, record-at, whole-at}
+use Rattle.ntfs_check_records.specs.Reading.{records_of}
+use Rattle.ntfs_check_files.specs.Asked.{PresumesLists}
 use Rattle.ntfs_check_files.specs.Extending.{extending, numbers_from}
 use Rattle.ntfs_check_files.specs.Members.{matches_listing, members_in, members_said}
 use Rattle.ntfs_check_files.specs.declared.extensions.Extensions.{Extensions}

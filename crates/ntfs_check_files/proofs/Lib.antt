@@ -1,9 +1,6 @@
-mod RecordLemmas
 mod BaseLemmas
-mod SearchLemmas
 mod RuleLemmas
 mod CollectLemmas
-mod AnswerLemmas
 mod FileLemmas
 mod ListLemmas
 mod ListedLemmas

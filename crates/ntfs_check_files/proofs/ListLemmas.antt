@@ -1,5 +1,7 @@
 -- The attribute list of a base record.
 use Rattle.std.proofs.Common.{◌≡◌, ◌==◌, ◌&&◌, ◌||◌, ◌++◌, ℕ, Bool, true, false, List, [], ◌∷◌, length, map, Option, Some, None, Result, Ok, Err, refl, sym, ap, ◌∙◌, arith}
+use Rattle.ntfs_check_records.proofs.EntryLemmas.{good-all}
+use Rattle.ntfs_check_records.specs.Entries.{good_entries}
 use Rattle.std.specs.Prelude.{is_ok, not}
 use Rattle.std.proofs.lemmas.Bool.Decides.{nat_tests}
 use Rattle.std.specs.Result.{result_map_both}
@@ -7,27 +9,13 @@ use Rattle.ntfs_attrlist.specs.Entry.{Listed}
 use Rattle.ntfs_attrlist.specs.Reading.{all_or_first, list_entries, list_items}
 use Rattle.ntfs_attrlist.specs.declared.fault.BadEntry.{BadEntry}
 use Rattle.ntfs_check_files.proofs.ListedLemmas.{listed-kept}
-use Rattle.ntfs_check_files.specs.Members.{all_name, all_named, good_entries, matches_listing, members_in, members_said, told_member}
+use Rattle.ntfs_check_files.specs.Members.{all_name, all_named, matches_listing, members_in, members_said, told_member}
 use Rattle.ntfs_check_files.specs.declared.members.Attribute.{Attribute as Kept}
 use Rattle.ntfs_record.specs.FileRecord.{FileRecord, Laid}
 use Rattle.ntfs_record.specs.Slots.{Slot}
 use Rattle.ntfs_rules.specs.Files.{are_listed}
 use Rattle.ntfs_volume.specs.Listing.{RecordListing, listing_of_bytes, listing_of_entries, no_listing}
 use Rattle.ntfs_volume.specs.Located.{Located}
-
-good-first : (entry : Listed) (right : List Listed) (rest : Result (List Listed) BadEntry) (entries : List Listed) → ((others : List Listed) → rest ≡ Ok others → right ≡ others)
-    → result_map_both (λ xs. entry ∷ xs) (λ (e : BadEntry). e) rest ≡ Ok entries → entry ∷ right ≡ entries
-good-first entry right (Ok others) entries more is =
-    let same : ◌≡◌ {A = Result (List Listed) BadEntry} (Ok (entry ∷ others)) (Ok entries) = is in
-    let whole : entry ∷ others ≡ entries = cc in
-    ap (λ xs. entry ∷ xs) (more others refl) ∙ whole
-good-first entry right (Err fault) entries more is = let same : ◌≡◌ {A = Result (List Listed) BadEntry} (Err fault) (Ok entries) = is in absurd cc
-
-good-all : (items : List (Result Listed BadEntry)) (entries : List Listed) → all_or_first items ≡ Ok entries → good_entries items ≡ entries
-unfolding good_entries
-good-all [] entries is = let here : ◌≡◌ {A = Result (List Listed) BadEntry} (Ok []) (Ok entries) = is in cc
-good-all (Ok entry ∷ items) entries is = good-first entry (good_entries items) (all_or_first items) entries (good-all items) is
-good-all (Err fault ∷ items) entries is = let here : ◌≡◌ {A = Result (List Listed) BadEntry} (Err fault) (Ok entries) = is in absurd cc
 
 abbrev Slots : Type 0
 Slots = List (Slot (Located (Laid (List ℕ))))

@@ -9,7 +9,7 @@ use Rattle.std.proofs.lemmas.List.Folds.{list_any-append}
 use Rattle.ntfs_attrlist.specs.Entry.{Listed}
 use Rattle.ntfs_check_files.specs.Extending.{extends, number_if, numbers_from}
 use Rattle.ntfs_check_files.specs.Members.{all_name, all_named, members_in, members_read, told_member}
-use Rattle.ntfs_check_files.specs.Reading.{is_readable}
+use Rattle.ntfs_check_records.specs.Reading.{is_readable}
 use Rattle.ntfs_check_files.specs.declared.members.Attribute.{Attribute as Kept}
 use Rattle.ntfs_record.specs.FileRecord.{Laid}
 use Rattle.ntfs_record.specs.Slots.{Slot}

@@ -3,7 +3,7 @@ use Rattle.std.proofs.Common.{◌≡◌, ◌<◌, ◌+◌, ◌==◌, ◌&&◌, �
 use Rattle.std.proofs.Math.Seq.{drop-cons}
 use Rattle.std.proofs.lemmas.List.{map-append}
 use Rattle.ntfs_check_files.specs.Members.{members_in, members_read, members_said, shown_but, shown_member, told_member}
-use Rattle.ntfs_check_files.specs.Reading.{IsView, is_readable}
+use Rattle.ntfs_check_records.specs.Reading.{IsView, is_readable}
 use Rattle.ntfs_check_files.specs.declared.members.Attribute.{Attribute as Kept}
 use Rattle.ntfs_record.specs.FileRecord.{FileRecord, Laid}
 use Rattle.ntfs_record.specs.Slots.{Slot}

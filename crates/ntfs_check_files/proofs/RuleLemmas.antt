@@ -13,8 +13,10 @@ use Rattle.ntfs_volume.specs.Streams.{lists_of}
 use Rattle.ntfs_base.specs.Bytes.{fill_cluster}
 use Rattle.ntfs_base.specs.Frames.{Gives}
 use Rattle.ntfs_base.specs.declared.refusal.Rule.TheVariants as rule
-use Rattle.ntfs_check_files.proofs.RecordLemmas.{slot-mapped}
-use Rattle.ntfs_check_files.specs.Asked.{Presumes, answer_of, first_refused, records_of}
+use Rattle.ntfs_check_records.proofs.RecordLemmas.{slot-mapped}
+use Rattle.ntfs_check_records.specs.Asked.{first_refused}
+use Rattle.ntfs_check_records.specs.Reading.{records_of}
+use Rattle.ntfs_check_files.specs.Asked.{Presumes, file_answer}
 use Rattle.ntfs_check_files.specs.declared.asked.Asked.{Asked}
 use Rattle.ntfs_check_files.specs.declared.asked.Asked.TheVariants as asked
 use Rattle.ntfs_record.proofs.SlotLemmas.{first_not-map}
@@ -55,15 +57,15 @@ c10-is o f =
     bases-mapped (in_located (λ place. place) (fill_cluster f)) (map_slots (on_payload (map_located (map_laid (cells_below o.geometry.clusters)))) 0 slots)
     ∙ bases-mapped (map_located (map_laid (cells_below o.geometry.clusters))) slots
 
-bases-asked : (o : Opened) (f : ℕ → List ℕ) → first_refused asked.Base o f ≡ c10 (records_of o f)
-unfolding c10 answer_of
+bases-asked : (o : Opened) (f : ℕ → List ℕ) → first_refused (file_answer asked.Base o f) o f ≡ c10 (records_of o f)
+unfolding c10 file_answer
 bases-asked o f = refl
 
 pub bases-presumed : (o : Opened) (f : ℕ → List ℕ) → c4 (volume_data o f).slots ≡ None → Presumes asked.Base o f
 unfolding Presumes
 bases-presumed o f whole = sym (c4-is o f) ∙ whole
 
-pub bases-given : (o : Opened) (f : ℕ → List ℕ) (result : Result (Unit {0}) CheckFault) → Gives check_origin (λ done. done) (unless_number rule.C10 (first_refused asked.Base o f) tt) result
+pub bases-given : (o : Opened) (f : ℕ → List ℕ) (result : Result (Unit {0}) CheckFault) → Gives check_origin (λ done. done) (unless_number rule.C10 (first_refused (file_answer asked.Base o f) o f) tt) result
     → Gives check_origin (λ done. done) (unless_number rule.C10 (c10 (volume_data o f).slots) tt) result
 bases-given o f result = subst (λ (found : Option ℕ). Gives check_origin (λ done. done) (unless_number rule.C10 found tt) result) (bases-asked o f ∙ sym (c10-is o f))
 
@@ -122,8 +124,8 @@ c11-is o f =
     ∙ files-mapped (in_located (λ place. place) (fill_cluster f)) (lists_of o.geometry f slots) (map_slots (on_payload (map_located (map_laid (cells_below o.geometry.clusters)))) 0 slots)
     ∙ files-mapped (map_located (map_laid (cells_below o.geometry.clusters))) (lists_of o.geometry f slots) slots
 
-lists-asked : (o : Opened) (f : ℕ → List ℕ) (extensions : Bor Extensions) → first_refused (asked.List extensions) o f ≡ c11 (lists_of o.geometry f (records_of o f)) (records_of o f)
-unfolding c11 answer_of
+lists-asked : (o : Opened) (f : ℕ → List ℕ) (extensions : Bor Extensions) → first_refused (file_answer (asked.List extensions) o f) o f ≡ c11 (lists_of o.geometry f (records_of o f)) (records_of o f)
+unfolding c11 file_answer
 lists-asked o f extensions = refl
 
 pub lists-presumed : (o : Opened) (f : ℕ → List ℕ) (extensions : Bor Extensions) → KeepsTen (volume_data o f) → AreExtensions o f extensions.now → Presumes (asked.List extensions) o f
@@ -135,8 +137,8 @@ lists-presumed o f extensions keeps all = record {
 }
 
 pub lists-given : (o : Opened) (f : ℕ → List ℕ) (question : Asked) (extensions : Bor Extensions) (result : Result (Unit {0}) CheckFault) → question ≡ asked.List extensions
-    → Gives check_origin (λ done. done) (unless_number rule.C11 (first_refused question o f) tt) result
+    → Gives check_origin (λ done. done) (unless_number rule.C11 (first_refused (file_answer question o f) o f) tt) result
     → Gives check_origin (λ done. done) (unless_number rule.C11 (c11 (listings (volume_data o f)) (volume_data o f).slots) tt) result
 lists-given o f question extensions result is =
     subst (λ (found : Option ℕ). Gives check_origin (λ done. done) (unless_number rule.C11 found tt) result)
-    (ap (λ (q : Asked). first_refused q o f) is ∙ lists-asked o f extensions ∙ sym (c11-is o f))
+    (ap (λ (q : Asked). first_refused (file_answer q o f) o f) is ∙ lists-asked o f extensions ∙ sym (c11-is o f))

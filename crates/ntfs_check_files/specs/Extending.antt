@@ -2,7 +2,7 @@
 use Rattle.std.specs.Prelude.{◌≡◌, ◌+◌, ◌==◌, ◌&&◌, not, ℕ, zero, suc, Bool, List, [], ◌∷◌, ◌++◌, Option, Some, None, Vec, if◌then◌else◌}
 use Rattle.std.specs.BTreeMap.{BTreeMap, get}
 use Rattle.std.specs.Ordering.{nat_cmp}
-use Rattle.ntfs_check_files.specs.Reading.{is_readable}
+use Rattle.ntfs_check_records.specs.Reading.{is_readable}
 use Rattle.ntfs_check_files.specs.declared.extensions.Extensions.{Extensions}
 use Rattle.ntfs_record.specs.Slots.{Slot}
 use Rattle.ntfs_survey.specs.Surveying.{record_at}

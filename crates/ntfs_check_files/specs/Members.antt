@@ -3,7 +3,7 @@ use Rattle.std.specs.Prelude.{◌==◌, ◌&&◌, ℕ, Bool, true, false, List, 
 use Rattle.std.specs.List.{flat_map, list_all, list_any}
 use Rattle.ntfs_attrlist.specs.Entry.{Listed}
 use Rattle.ntfs_attrlist.specs.declared.fault.BadEntry.{BadEntry}
-use Rattle.ntfs_check_files.specs.Reading.{is_readable}
+use Rattle.ntfs_check_records.specs.Reading.{is_readable}
 use Rattle.ntfs_check_files.specs.declared.members.Attribute.{Attribute as Kept}
 use Rattle.ntfs_record.specs.FileRecord.{FileRecord, Laid}
 use Rattle.ntfs_record.specs.Slots.{Slot}
@@ -43,15 +43,9 @@ members_read n s = if is_readable s then map (member_at n s) s.attributes else [
 abbrev pub members_in : List (Slot (Located (Laid (List ℕ)))) → List ℕ → List Member
 members_in slots numbers = flat_map (λ n. members_read n (slot_at slots n)) numbers
 
--- the entries that are right
-unfoldable pub good_entries : List (Result Listed BadEntry) → List Listed
-good_entries [] = []
-good_entries (Ok entry ∷ items) = entry ∷ good_entries items
-good_entries (Err fault ∷ items) = good_entries items
-
 -- an attribute that is kept is one that an entry names
-abbrev pub is_named : Listed → Kept → Bool
-is_named entry m = names_member (told_member m) entry
+abbrev pub names_kept : Listed → Kept → Bool
+names_kept entry m = names_member (told_member m) entry
 
 -- two that are kept are the same
 abbrev pub is_same : Kept → Kept → Bool
@@ -59,7 +53,7 @@ is_same m other = is_same_member (told_member m) (told_member other)
 
 -- each entry names one that is kept
 abbrev pub all_name : List Listed → List Kept → Bool
-all_name entries kept = list_all (λ (entry : Listed). list_any (is_named entry) kept) entries
+all_name entries kept = list_all (λ (entry : Listed). list_any (names_kept entry) kept) entries
 
 -- each that is kept is named once, and is the only such one
 abbrev pub all_named : List Listed → List Kept → Bool

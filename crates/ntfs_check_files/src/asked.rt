@@ -1,20 +1,10 @@
 //! Questions about records, one record at a time.
 
-ghost use Rattle.std.specs.Prelude.{◌≡◌, length, Some};
-ghost use Rattle.ntfs_base.specs.Bytes.{cluster_at};
-ghost use Rattle.ntfs_base.specs.Frames.{IfTold, OnlyReads};
-ghost use Rattle.ntfs_check_files.specs.Asked.{Presumes, asked_at};
-ghost use Rattle.ntfs_check_files.specs.Reading.{Answers};
-ghost use Rattle.ntfs_fixup.specs.Fixups.{HasWholeStrides};
-ghost use Rattle.ntfs_rules.specs.Outcome.{check_origin};
-ghost use Rattle.ntfs_volume.specs.Opened.{HasClusters};
-ghost use Rattle.ntfs_volume.specs.Records.{raw_record};
-
 use crate::bases::has_named_base;
 use crate::extensions::Extensions;
 use crate::lists::is_listed;
-use crate::records::sound_record;
 use ntfs_base::Image;
+use ntfs_check_records::{Question, sound_record};
 use ntfs_rules::CheckFault;
 use ntfs_volume::Table;
 use std::alloc::Global;
@@ -28,30 +18,30 @@ pub(crate) enum Asked<'a> {
     List { extensions: &'a Extensions },
 }
 
-/// The answer of the record of a number, which has these bytes; they hold anything afterwards.
-pub(crate) fn passes<G: Image>(
-    alloc: Global,
-    image: &mut G,
-    table: &Table,
-    asked: &Asked<'_>,
-    number: u64,
-    raw: &mut [u8],
-) -> Result<bool, CheckFault>
-    requires held { HasClusters (G.seen image.old).size table.now }
-    requires strides { HasWholeStrides raw.old }
-    requires block { length raw.old ≡ table.now.geometry.record_size }
-    ensures answers { IfTold G.Image image.old (λ content.
-        Presumes asked.now table.now (cluster_at content table.now.geometry.cluster)
-        → raw_record table.now.geometry table.now.map (cluster_at content table.now.geometry.cluster) number
-        ≡ Some raw.old
-        → Answers (asked_at asked.now table.now (cluster_at content table.now.geometry.cluster) number) result) }
-    ensures reads { OnlyReads G.Image check_origin image.old image.new result }
-{
-    match sound_record(number, raw) {
-        None => Ok(true),
-        Some(view) => match asked {
-            Asked::Base => has_named_base(alloc, image, table, &view),
-            Asked::List { extensions } => is_listed(alloc, image, table, extensions, number, &view),
-        },
+impl<'a> Question for Asked<'a> {
+    ghost use Rattle.ntfs_base.specs.Bytes.{cluster_at};
+    ghost use Rattle.ntfs_check_files.specs.Asked.{Presumes, file_answer};
+
+    ghost presumes = { λ asked o content. Presumes asked o (cluster_at content o.geometry.cluster) };
+
+    ghost answer = { λ asked o content. file_answer asked o (cluster_at content o.geometry.cluster) };
+
+    fn passes<G: Image>(
+        &self,
+        alloc: Global,
+        image: &mut G,
+        table: &Table,
+        number: u64,
+        raw: &mut [u8],
+    ) -> Result<bool, CheckFault> {
+        match sound_record(number, raw) {
+            None => Ok(true),
+            Some(view) => match self {
+                Asked::Base => has_named_base(alloc, image, table, &view),
+                Asked::List { extensions } => {
+                    is_listed(alloc, image, table, extensions, number, &view)
+                }
+            },
+        }
     }
 }

@@ -4,15 +4,15 @@ ghost use Rattle.std.specs.Prelude.{◌≡◌, ◌==◌, ◌&&◌, ◌||◌, Non
 ghost use Rattle.ntfs_volume.specs.References as references;
 ghost use Rattle.ntfs_base.specs.Bytes.{cluster_at};
 ghost use Rattle.ntfs_base.specs.Frames.{IfTold, OnlyReads};
-ghost use Rattle.ntfs_check_files.specs.Asked.{records_of};
-ghost use Rattle.ntfs_check_files.specs.Reading.{Answers};
+ghost use Rattle.ntfs_check_records.specs.Reading.{records_of};
+ghost use Rattle.ntfs_check_records.specs.Reading.{Answers};
 ghost use Rattle.ntfs_rules.specs.Files as files;
 ghost use Rattle.ntfs_rules.specs.Outcome.{check_origin};
 ghost use Rattle.ntfs_rules.specs.Records.{c4};
 ghost use Rattle.ntfs_volume.specs.Opened.{HasClusters};
 
-use crate::records::read_sound;
 use ntfs_base::Image;
+use ntfs_check_records::read_sound;
 use ntfs_record::RecordView;
 use ntfs_rules::CheckFault;
 use ntfs_volume::{Table, matches, target};

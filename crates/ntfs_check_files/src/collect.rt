@@ -12,9 +12,8 @@ ghost use Rattle.ntfs_volume.specs.Opened.{HasClusters, Opened};
 ghost use Rattle.ntfs_volume.specs.Scan.{HoldRecords, scan_at, taken_count};
 
 use crate::extensions::Extensions;
-use crate::records::sound_record;
-use crate::search::buffer_for;
 use ntfs_base::Image;
+use ntfs_check_records::{buffer_for, sound_record};
 use ntfs_rules::CheckFault;
 use ntfs_volume::{Scan, Table, target};
 use std::alloc::{AllocError, Global};

@@ -1,10 +1,11 @@
 //! The entries of an attribute list against the attributes of a file.
 
 ghost use Rattle.std.specs.Prelude.{◌≡◌, ◌==◌, ◌&&◌};
+ghost use Rattle.ntfs_check_records.specs.Entries.{good_entries};
 ghost use Rattle.std.specs.List.{list_any};
 ghost use Rattle.ntfs_attrlist.specs.Reading.{list_items};
 ghost use Rattle.ntfs_attrlist.specs.Views.{shown_entry};
-ghost use Rattle.ntfs_check_files.specs.Members.{all_name, all_named, good_entries, is_named, is_same, told_member};
+ghost use Rattle.ntfs_check_files.specs.Members.{all_name, all_named, is_same, names_kept, told_member};
 ghost use Rattle.ntfs_rules.specs.Files.{count_of, names_member};
 ghost use Rattle.ntfs_volume.specs.Gather.{means};
 
@@ -26,7 +27,7 @@ fn is_meant(entry: &ListEntry<'_>, attribute: &Attribute) -> bool
 /// An entry names an attribute.
 #[tactic(auto, unfolding(ntfs_rules::specs::Files::names_member))]
 fn is_named(entry: &ListEntry<'_>, attribute: &Attribute) -> bool
-    ensures { result ≡ is_named (shown_entry entry.now) attribute.now }
+    ensures { result ≡ names_kept (shown_entry entry.now) attribute.now }
 {
     is_meant(entry, attribute) && matches(entry.reference, attribute.number, attribute.sequence)
 }
@@ -45,7 +46,7 @@ fn is_same(attribute: &Attribute, other: &Attribute) -> bool
 
 /// An entry names one of these attributes.
 fn names_any(entry: &ListEntry<'_>, kept: &[Attribute]) -> bool
-    ensures { result ≡ list_any (is_named (shown_entry entry.now)) kept.now }
+    ensures { result ≡ list_any (names_kept (shown_entry entry.now)) kept.now }
 {
     kept.iter().any(|attribute| is_named(entry, attribute))
 }

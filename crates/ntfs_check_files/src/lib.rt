@@ -8,9 +8,7 @@ mod compare;
 mod extensions;
 mod lists;
 mod members;
-mod records;
 mod rules;
-mod search;
 
 pub use rules::{check_base_references, check_lists};
 

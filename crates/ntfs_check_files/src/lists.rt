@@ -4,10 +4,10 @@ ghost use Rattle.std.specs.Prelude.{◌≡◌, ◌==◌, ◌||◌, not, ℕ, Lis
 ghost use Rattle.ntfs_base.specs.Bytes.{cluster_at};
 ghost use Rattle.ntfs_base.specs.Frames.{IfTold, OnlyReads};
 ghost use Rattle.ntfs_boot.specs.Geometry.{IsOpened};
-ghost use Rattle.ntfs_check_files.specs.Asked.{records_of};
+ghost use Rattle.ntfs_check_records.specs.Reading.{records_of};
 ghost use Rattle.ntfs_check_files.specs.Extending.{extending};
 ghost use Rattle.ntfs_check_files.specs.Members.{matches_listing};
-ghost use Rattle.ntfs_check_files.specs.Reading.{Answers};
+ghost use Rattle.ntfs_check_records.specs.Reading.{Answers};
 ghost use Rattle.ntfs_record.specs.FileRecord.{Attribute, Laid};
 ghost use Rattle.ntfs_rules.specs.Outcome.{check_origin};
 ghost use Rattle.ntfs_volume.specs.Gathering.{file_lists};

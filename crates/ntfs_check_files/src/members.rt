@@ -3,14 +3,14 @@
 ghost use Rattle.std.specs.Prelude.{◌≡◌, ◌==◌, ◌&&◌, ◌++◌, true, false, map, IfErr, IfOk, OnOk};
 ghost use Rattle.ntfs_base.specs.Bytes.{cluster_at};
 ghost use Rattle.ntfs_base.specs.Frames.{IfTold, IsSettled, OnlyReads};
-ghost use Rattle.ntfs_check_files.specs.Asked.{records_of};
+ghost use Rattle.ntfs_check_records.specs.Reading.{records_of};
 ghost use Rattle.ntfs_check_files.specs.Members.{members_in, members_said, shown_member, told_member};
 ghost use Rattle.ntfs_record.specs.Views.{shown_body, shown_view};
 ghost use Rattle.ntfs_rules.specs.Outcome.{check_origin};
 ghost use Rattle.ntfs_volume.specs.Opened.{HasClusters};
 
-use crate::records::read_sound;
 use ntfs_base::Image;
+use ntfs_check_records::read_sound;
 use ntfs_record::{AttributeView, Body, RecordView};
 use ntfs_rules::CheckFault;
 use ntfs_volume::Table;

@@ -4,7 +4,6 @@ ghost use Rattle.std.specs.Prelude.{◌≡◌, None};
 ghost use Rattle.ntfs_base.specs.Bytes.{cluster_at};
 ghost use Rattle.ntfs_base.specs.Frames.{Gives, IfTold, OnlyReads};
 ghost use Rattle.ntfs_base.specs.declared.refusal.Rule.TheVariants as rule;
-ghost use Rattle.ntfs_check_files.specs.Asked.{Presumes, first_refused};
 ghost use Rattle.ntfs_check_files.specs.Extending.{AreExtensions};
 ghost use Rattle.ntfs_check_files.specs.Premises.{KeepsTen};
 ghost use Rattle.ntfs_rules.specs.Files.{c10, c11};
@@ -16,34 +15,11 @@ ghost use Rattle.ntfs_volume.specs.Opened.{HasClusters};
 use crate::asked::Asked;
 use crate::collect::collect_extensions;
 use crate::extensions::Extensions;
-use crate::search::first_failing;
 use ntfs_base::{Image, Rule};
-use ntfs_rules::{CheckFault, damaged};
+use ntfs_check_records::ask_all;
+use ntfs_rules::CheckFault;
 use ntfs_volume::Table;
 use std::alloc::Global;
-
-/// Whether what is asked holds of all records in use, or which is the first of which it doesn't: that one breaks a
-/// rule.
-fn ask_all<G: Image>(
-    alloc: Global,
-    image: &mut G,
-    table: &Table,
-    asked: &Asked<'_>,
-    rule: Rule,
-) -> Result<(), CheckFault>
-    requires held { HasClusters (G.seen image.old).size table.now }
-    ensures gives { IfTold G.Image image.old (λ content.
-        Presumes asked.now table.now (cluster_at content table.now.geometry.cluster)
-        → Gives check_origin (λ done. done) (unless_number rule
-        (first_refused asked.now table.now (cluster_at content table.now.geometry.cluster)) tt) result) }
-    ensures reads { OnlyReads G.Image check_origin image.old image.new result }
-{
-    match first_failing(alloc, image, table, asked) {
-        Err(fault) => Err(fault),
-        Ok(None) => Ok(()),
-        Ok(Some(number)) => Err(damaged(rule, number)),
-    }
-}
 
 /// Rule C10: the base reference of each record that has one matches a base record in use.
 pub fn check_base_references<G: Image>(

@@ -15,8 +15,8 @@ use Rattle.ntfs_bitmap.specs.ClusterSet.{Clusters, IsFree, bound_of, empty_set, 
 use Rattle.ntfs_bitmap.specs.Search.{IsLeast}
 use Rattle.ntfs_check_fixed.proofs.PlaceLemmas.{all-clusters, run-cells, run-clusters}
 use Rattle.ntfs_check_fixed.proofs.FixedLemmas.{all_rows, fixed-is, is-plain}
-use Rattle.ntfs_check_fixed.specs.Facts.{Adds, HasNoValue, VolumeFacts, cells_found, cells_in, end_of, facts_of, fixed_in, is_among, is_dirty, value_found, value_in}
-use Rattle.ntfs_check_fixed.specs.Rows.{HasNoCells, found_by, row_check}
+use Rattle.ntfs_check_fixed.specs.Facts.{AddsClusters, HasNoValue, VolumeFacts, cells_found, gathered_cells, owned_end, facts_of, fixed_in, is_among, is_dirty, value_found, value_in}
+use Rattle.ntfs_check_fixed.specs.Rows.{HasNoClusters, found_by, row_check}
 use Rattle.ntfs_directory.specs.UpCase.{data_kind}
 use Rattle.ntfs_rules.proofs.DataLemmas.{stream-is}
 use Rattle.ntfs_rules.specs.Accepts.{claims_in}
@@ -52,7 +52,7 @@ none-in-run first k = grind (arith, nat_tests)
 first-zero : (first at k : ℕ) → at ≡ first → in_run first (at - first) k ≡ false
 first-zero first at k same = let none : at - first ≡ 0 = omega (arith, same) in ap (λ n. in_run first n k) none ∙ none-in-run first k
 
-pub adds-none : (set : Clusters) (first at : ℕ) → at ≡ first → Adds set set (in_run first (at - first))
+pub adds-none : (set : Clusters) (first at : ℕ) → at ≡ first → AddsClusters set set (in_run first (at - first))
 adds-none set first at same = record { bound = refl; members = λ k. sym (ap (λ b. has set k || b) (first-zero first at k same) ∙ or-none (has set k)) }
 
 run-yes : (first n k : ℕ) → first ≤ k → k < first + n → in_run first n k ≡ true
@@ -91,7 +91,7 @@ taken-all set at end none k from below = elim (true_or_false (has set k)) [
 ]
 
 -- numbers that are in already may be counted with the run
-wider : (old set : Clusters) (first at end : ℕ) → first ≤ at → at ≤ end → Adds old set (in_run first (at - first)) → AreIn set at end → Adds old set (in_run first (end - first))
+wider : (old set : Clusters) (first at end : ℕ) → first ≤ at → at ≤ end → AddsClusters old set (in_run first (at - first)) → AreIn set at end → AddsClusters old set (in_run first (end - first))
 wider old set first at end from to adds are = record {
   bound = adds.bound;
   members = λ k. elim (cases_lt k at) [
@@ -124,8 +124,8 @@ joined-runs first f n k from = elim (cases_lt k f) [
       | inr high ↦ run-yes first (f - first) k high (omega (arith, before, from)) ∙ sym (run-yes first (f + n - first) k high (omega (arith, before, from)))
     ]
 
-pub piece-added : (old set new : Clusters) (first at end f n : ℕ) → first ≤ at → IsLeast (IsFree set at end) f → Adds old set (in_run first (at - first)) → Adds set new (in_run f n)
-    → Adds old new (in_run first (f + n - first))
+pub piece-added : (old set new : Clusters) (first at end f n : ℕ) → first ≤ at → IsLeast (IsFree set at end) f → AddsClusters old set (in_run first (at - first)) → AddsClusters set new (in_run f n)
+    → AddsClusters old new (in_run first (f + n - first))
 piece-added old set new first at end f n from least adds more =
     let reached = least.holds.reached in
     let wide = wider old set first at f from reached adds (taken-before set at end f least) in
@@ -135,10 +135,10 @@ piece-added old set new first at end f n from least adds more =
           ∙ ap (λ b. has old k || b) (joined-runs first f n k (omega (arith, from, reached)));
     }
 
-pub pieces-added : (old set : Clusters) (first at end n : ℕ) → first ≤ at → at ≤ end → end ≡ first + n → Adds old set (in_run first (at - first)) → ((k : ℕ) → IsFree set at end k → ⊥) → Adds old set (in_run first n)
+pub pieces-added : (old set : Clusters) (first at end n : ℕ) → first ≤ at → at ≤ end → end ≡ first + n → AddsClusters old set (in_run first (at - first)) → ((k : ℕ) → IsFree set at end k → ⊥) → AddsClusters old set (in_run first n)
 pieces-added old set first at end n from to is adds none =
     let same : end - first ≡ n = omega (arith, is) in
-    subst (λ (m : ℕ). Adds old set (in_run first m)) same (wider old set first at end from to adds (taken-all set at end none))
+    subst (λ (m : ℕ). AddsClusters old set (in_run first m)) same (wider old set first at end from to adds (taken-all set at end none))
 
 -- ---- cells
 
@@ -186,7 +186,7 @@ empty-among runs i k all set new lt none same is =
     let zero_length : (get_or runs i no_run).length ≡ 0 = omega (arith, none) in
     same-among runs i k all (has set k) (has new k) lt (ap (λ n. is_among (row n (get_or runs i no_run).lcn) k) zero_length) (ap (λ (s : Clusters). has s k) same) is
 
-pub some-among : (runs : List Run) (i k first : ℕ) (all : Bool) (set added new : Clusters) → i < length runs → (get_or runs i no_run).lcn ≡ Some first → new ≡ added → Adds set added (in_run first (get_or runs i no_run).length)
+pub some-among : (runs : List Run) (i k first : ℕ) (all : Bool) (set added new : Clusters) → i < length runs → (get_or runs i no_run).lcn ≡ Some first → new ≡ added → AddsClusters set added (in_run first (get_or runs i no_run).length)
     → all ≡ (has set k || is_among (vcns (drop i runs)) k) → all ≡ (has new k || is_among (vcns (drop (i + 1) runs)) k)
 some-among runs i k first all set added new lt lcn same adds is =
     is
@@ -255,35 +255,35 @@ count-end runs i s count n le capped is few are place =
 
 -- ---- how far a record reaches
 
-end-append : (r : ℕ) (front rest : List (Claim ℕ)) → end_of r (front ++ rest) ≡ max (end_of r front) (end_of r rest)
-unfolding end_of
+end-append : (r : ℕ) (front rest : List (Claim ℕ)) → owned_end r (front ++ rest) ≡ max (owned_end r front) (owned_end r rest)
+unfolding owned_end
 end-append r [] rest = omega arith
 end-append r (claim ∷ front) rest =
     ap (λ n. max (if claim.number == r then claim.cluster + 1 else 0) n) (end-append r front rest)
     ∙ (omega arith)
 
-end-row : (r number place vcn n first : ℕ) → (number == r) ≡ true → 1 ≤ n → end_of r (cell_claims number place vcn (row n (Some first))) ≡ first + n
-unfolding end_of cell_claims row
+end-row : (r number place vcn n first : ℕ) → (number == r) ≡ true → 1 ≤ n → owned_end r (cell_claims number place vcn (row n (Some first))) ≡ first + n
+unfolding owned_end cell_claims row
 end-row r number place vcn zero first own some = absurd (omega (arith, some))
 end-row r number place vcn (suc zero) first own some = ap (λ b. max (if b then first + 1 else 0) 0) own ∙ (omega arith)
 end-row r number place vcn (suc (suc n)) first own some =
-    ap (λ b. max (if b then first + 1 else 0) (end_of r (cell_claims number place (suc vcn) (row (suc n) (Some (first + 1)))))) own
+    ap (λ b. max (if b then first + 1 else 0) (owned_end r (cell_claims number place (suc vcn) (row (suc n) (Some (first + 1)))))) own
     ∙ ap (λ m. max (first + 1) m) (end-row r number place (suc vcn) (suc n) (first + 1) own (omega arith)) ∙ (omega arith)
 
-end-other : (r number place vcn n first : ℕ) → (number == r) ≡ false → end_of r (cell_claims number place vcn (row n (Some first))) ≡ 0
-unfolding end_of cell_claims row
+end-other : (r number place vcn n first : ℕ) → (number == r) ≡ false → owned_end r (cell_claims number place vcn (row n (Some first))) ≡ 0
+unfolding owned_end cell_claims row
 end-other r number place vcn zero first other = refl
 end-other r number place vcn (suc n) first other =
-    ap (λ b. max (if b then first + 1 else 0) (end_of r (cell_claims number place (suc vcn) (row n (Some (first + 1)))))) other
+    ap (λ b. max (if b then first + 1 else 0) (owned_end r (cell_claims number place (suc vcn) (row n (Some (first + 1)))))) other
     ∙ ap (λ m. max 0 m) (end-other r number place (suc vcn) n (first + 1) other) ∙ (omega arith)
 
 abbrev pub no_owner : Owner
 no_owner = record { first = 0; length = 0; number = 0; place = 0; vcn = 0 }
 
 owners-next : (r : ℕ) (owners : List Owner) (i : ℕ) → i < length owners
-    → end_of r (flat_map owner_claims (drop i owners)) ≡ max (end_of r (owner_claims (get_or owners i no_owner))) (end_of r (flat_map owner_claims (drop (i + 1) owners)))
+    → owned_end r (flat_map owner_claims (drop i owners)) ≡ max (owned_end r (owner_claims (get_or owners i no_owner))) (owned_end r (flat_map owner_claims (drop (i + 1) owners)))
 owners-next r owners i lt =
-    at_drop_more (λ os. end_of r (flat_map owner_claims os)) owners i no_owner lt
+    at_drop_more (λ os. owned_end r (flat_map owner_claims os)) owners i no_owner lt
     ∙ end-append r (owner_claims (get_or owners i no_owner)) (flat_map owner_claims (drop (i + 1) owners))
 
 same-number : (a b : ℕ) → a ≡ b → (a == b) ≡ true
@@ -292,37 +292,37 @@ same-number a b is = grind (arith, nat_tests)
 other-number : (a b : ℕ) → (a ≡ b → ⊥) → (a == b) ≡ false
 other-number a b is = grind (arith, nat_tests)
 
-pub own-end : (r sum n : ℕ) (o : Owner) → n < 2 ^ 63 → LiesBelow n o → o.number ≡ r → sum ≡ min (o.first + o.length) (2 ^ 64 - 1) → sum ≡ end_of r (owner_claims o)
+pub own-end : (r sum n : ℕ) (o : Owner) → n < 2 ^ 63 → LiesBelow n o → o.number ≡ r → sum ≡ min (o.first + o.length) (2 ^ 64 - 1) → sum ≡ owned_end r (owner_claims o)
 own-end r sum n o few lies own summed =
     let first = end-row r o.number o.place o.vcn o.length o.first (same-number o.number r own) lies.some in
     omega (arith, few, lies.within, first, summed)
 
-pub other-end : (r : ℕ) (o : Owner) → (o.number ≡ r → ⊥) → 0 ≡ end_of r (owner_claims o)
+pub other-end : (r : ℕ) (o : Owner) → (o.number ≡ r → ⊥) → 0 ≡ owned_end r (owner_claims o)
 other-end r o other = sym (end-other r o.number o.place o.vcn o.length o.first (other-number o.number r other))
 
-pub next-end : (r : ℕ) (owners : List Owner) (i all end part next : ℕ) → i < length owners → part ≡ end_of r (owner_claims (get_or owners i no_owner)) → next ≡ max end part
-    → all ≡ max end (end_of r (flat_map owner_claims (drop i owners))) → all ≡ max next (end_of r (flat_map owner_claims (drop (i + 1) owners)))
+pub next-end : (r : ℕ) (owners : List Owner) (i all end part next : ℕ) → i < length owners → part ≡ owned_end r (owner_claims (get_or owners i no_owner)) → next ≡ max end part
+    → all ≡ max end (owned_end r (flat_map owner_claims (drop i owners))) → all ≡ max next (owned_end r (flat_map owner_claims (drop (i + 1) owners)))
 next-end r owners i all end part next lt here is same = let parts = owners-next r owners i lt in omega (arith, here, parts, is, same)
 
-pub last-end : (r : ℕ) (owners : List Owner) (i all end : ℕ) → length owners ≤ i → all ≡ max end (end_of r (flat_map owner_claims (drop i owners))) → end ≡ all
-unfolding end_of
+pub last-end : (r : ℕ) (owners : List Owner) (i all end : ℕ) → length owners ≤ i → all ≡ max end (owned_end r (flat_map owner_claims (drop i owners))) → end ≡ all
+unfolding owned_end
 last-end r owners i all end le same =
-    let none = at_drop_all (λ os. end_of r (flat_map owner_claims os)) owners i le in
+    let none = at_drop_all (λ os. owned_end r (flat_map owner_claims os)) owners i le in
     omega (arith, none, same)
 
 -- a record reaches no further than its owners
-owner-within : (r n : ℕ) (o : Owner) (b : Bool) → (o.number == r) ≡ b → LiesBelow n o → end_of r (owner_claims o) ≤ n
+owner-within : (r n : ℕ) (o : Owner) (b : Bool) → (o.number == r) ≡ b → LiesBelow n o → owned_end r (owner_claims o) ≤ n
 owner-within r n o true own lies = let end = end-row r o.number o.place o.vcn o.length o.first own lies.some in omega (arith, end, lies.within)
 owner-within r n o false other lies = let none = end-other r o.number o.place o.vcn o.length o.first other in omega (arith, none)
 
-owners-within : (r n : ℕ) (owners : List Owner) → AllByRecursion (LiesBelow n) owners → end_of r (flat_map owner_claims owners) ≤ n
-unfolding end_of
+owners-within : (r n : ℕ) (owners : List Owner) → AllByRecursion (LiesBelow n) owners → owned_end r (flat_map owner_claims owners) ≤ n
+unfolding owned_end
 owners-within r n [] lies = omega arith
 owners-within r n (o ∷ owners) lies =
     let parts = end-append r (owner_claims o) (flat_map owner_claims owners) in
     omega (arith, parts, owner-within r n o (o.number == r) refl lies.0, owners-within r n owners lies.1)
 
-pub end-within : (r n : ℕ) (owners : List Owner) → All (LiesBelow n) owners → end_of r (flat_map owner_claims owners) ≤ n
+pub end-within : (r n : ℕ) (owners : List Owner) → All (LiesBelow n) owners → owned_end r (flat_map owner_claims owners) ≤ n
 end-within r n owners lies = owners-within r n owners (recursion_from_All (LiesBelow n) owners lies)
 
 -- ---- the dirty flag
@@ -343,7 +343,7 @@ dirty-short value short = ap (λ n. n % 2 == 1) (sym (get_or_past value 0x0A 0 (
 pub fixed-bound : (n : ℕ) (bitmap bad : List (Option ℕ)) → bound_of (fixed_in n bitmap bad) ≡ n
 fixed-bound n bitmap bad = bound-set_where n (λ k. is_among bitmap k || is_among bad k)
 
-pub fixed-set : (n : ℕ) (none one both : Clusters) (bitmap bad : List (Option ℕ)) → none ≡ empty_set n → Adds none one (is_among bitmap) → Adds one both (is_among bad) → both ≡ fixed_in n bitmap bad
+pub fixed-set : (n : ℕ) (none one both : Clusters) (bitmap bad : List (Option ℕ)) → none ≡ empty_set n → AddsClusters none one (is_among bitmap) → AddsClusters one both (is_among bad) → both ≡ fixed_in n bitmap bad
 fixed-set n none one both bitmap bad empty first second =
     let bound : bound_of both ≡ n = second.bound ∙ first.bound ∙ ap bound_of empty ∙ bound-set_where n (λ _. false) in
     sym (set_where-has both) ∙ ap (λ m. set_where m (has both)) bound
@@ -352,7 +352,7 @@ fixed-set n none one both bitmap bad empty first second =
 
 -- ---- what was found
 
-cells-of : (o : Result (Gathered ℕ) VolumeFault) → cells_in (found_by o) ≡ cells_found o
+cells-of : (o : Result (Gathered ℕ) VolumeFault) → gathered_cells (found_by o) ≡ cells_found o
 cells-of (Ok found) = refl
 cells-of (Err fault) = refl
 
@@ -360,15 +360,15 @@ value-of : (o : Result (Gathered ℕ) VolumeFault) → value_in (found_by o) ≡
 value-of (Ok found) = refl
 value-of (Err fault) = refl
 
-plain-of : (o : Result (Gathered ℕ) VolumeFault) → ((found : Gathered ℕ) → o ≡ Ok found → HasNoCells found.stream × HasNoValue found.stream)
-    → IfSome (found_by o) (λ s. HasNoCells s.stream) × IfSome (found_by o) (λ s. HasNoValue s.stream)
+plain-of : (o : Result (Gathered ℕ) VolumeFault) → ((found : Gathered ℕ) → o ≡ Ok found → HasNoClusters found.stream × HasNoValue found.stream)
+    → IfSome (found_by o) (λ s. HasNoClusters s.stream) × IfSome (found_by o) (λ s. HasNoValue s.stream)
 plain-of (Ok found) plain = plain found refl
 plain-of (Err fault) plain = (tt, tt)
 
 pub found-plain : (o : Opened) (f : ℕ → List ℕ) (r kind : ℕ) (name : List ℕ) (found : Option (Gathered ℕ)) → found ≡ found_by (gather_of o.geometry o.map f r kind name)
-    → IfSome found (λ s. HasNoCells s.stream) × IfSome found (λ s. HasNoValue s.stream)
+    → IfSome found (λ s. HasNoClusters s.stream) × IfSome found (λ s. HasNoValue s.stream)
 found-plain o f r kind name found is =
-    subst (λ (x : Option (Gathered ℕ)). IfSome x (λ s. HasNoCells s.stream) × IfSome x (λ s. HasNoValue s.stream)) (sym is)
+    subst (λ (x : Option (Gathered ℕ)). IfSome x (λ s. HasNoClusters s.stream) × IfSome x (λ s. HasNoValue s.stream)) (sym is)
     (plain-of (gather_of o.geometry o.map f r kind name) (λ x given. is-plain o.geometry o.map f r kind name x given))
 
 all-clear : (checks : List (Check ℕ)) → first_wrong checks ≡ None → AllByRecursion (λ (c : Check ℕ). c.holds ≡ true) checks
@@ -391,10 +391,10 @@ row-8-place lists (Ok found) is =
 row-8-place lists (Err fault) is = refl
 
 pub bad-in-place : (o : Opened) (f : ℕ → List ℕ) (bad : Option (Gathered ℕ)) → bad ≡ found_by (gather_of o.geometry o.map f 8 data_kind bad_name)
-    → c15 (volume_data o f).geometry (map (λ (k : Cluster). k.number) (volume_data o f).table) (listings (volume_data o f)) (numbers (volume_data o f)) ≡ None → are_in_place 0 (cells_in bad) ≡ true
+    → c15 (volume_data o f).geometry (map (λ (k : Cluster). k.number) (volume_data o f).table) (listings (volume_data o f)) (numbers (volume_data o f)) ≡ None → are_in_place 0 (gathered_cells bad) ≡ true
 bad-in-place o f bad is none =
     let clear = all-clear (map (row_check o f) all_rows) (sym (fixed-is o f) ∙ none) in
-    ap (λ x. are_in_place 0 (cells_in x)) is ∙ ap (are_in_place 0) (cells-of (gather_of o.geometry o.map f 8 data_kind bad_name))
+    ap (λ x. are_in_place 0 (gathered_cells x)) is ∙ ap (are_in_place 0) (cells-of (gather_of o.geometry o.map f 8 data_kind bad_name))
     ∙ row-8-place (lists_of o.geometry f (slots_of o.geometry o.map f)) (gather_of o.geometry o.map f 8 data_kind bad_name) clear.1.1.1.1.1.1.1.0
 
 -- ---- all facts
@@ -404,17 +404,17 @@ with_parts boot set count dirty = record { boot_end = boot; fixed = set; bad_cou
 
 pub facts-are : (o : Opened) (f : ℕ → List ℕ) (bitmap bad information : Option (Gathered ℕ)) (boot count : ℕ) (set : Clusters) (dirty : Bool)
     → bitmap ≡ found_by (gather_of o.geometry o.map f 6 data_kind []) → bad ≡ found_by (gather_of o.geometry o.map f 8 data_kind bad_name)
-    → information ≡ found_by (gather_of o.geometry o.map f 3 volume_information_kind []) → boot ≡ end_of 7 (claims_in (volume_data o f))
-    → set ≡ fixed_in o.geometry.clusters (cells_in bitmap) (cells_in bad) → count ≡ length (clusters_in (cells_in bad)) → dirty ≡ is_dirty (value_in information)
+    → information ≡ found_by (gather_of o.geometry o.map f 3 volume_information_kind []) → boot ≡ owned_end 7 (claims_in (volume_data o f))
+    → set ≡ fixed_in o.geometry.clusters (gathered_cells bitmap) (gathered_cells bad) → count ≡ length (clusters_in (gathered_cells bad)) → dirty ≡ is_dirty (value_in information)
     → record { boot_end = boot; fixed = set; bad_count = count; dirty = dirty } ≡ facts_of (volume_data o f)
 unfolding facts_of volume_data with_parts
 facts-are o f bitmap bad information boot count set dirty bitmap_is bad_is information_is boot_is set_is count_is dirty_is =
-    let bitmap_cells = ap cells_in bitmap_is ∙ cells-of (gather_of o.geometry o.map f 6 data_kind []) ∙ sym (ap cells_found (stream-is o f 6 data_kind [])) in
-    let bad_cells = ap cells_in bad_is ∙ cells-of (gather_of o.geometry o.map f 8 data_kind bad_name) ∙ sym (ap cells_found (stream-is o f 8 data_kind bad_name)) in
+    let bitmap_cells = ap gathered_cells bitmap_is ∙ cells-of (gather_of o.geometry o.map f 6 data_kind []) ∙ sym (ap cells_found (stream-is o f 6 data_kind [])) in
+    let bad_cells = ap gathered_cells bad_is ∙ cells-of (gather_of o.geometry o.map f 8 data_kind bad_name) ∙ sym (ap cells_found (stream-is o f 8 data_kind bad_name)) in
     let value = ap value_in information_is ∙ value-of (gather_of o.geometry o.map f 3 volume_information_kind []) ∙ sym (ap value_found (stream-is o f 3 volume_information_kind [])) in
     ap (λ n. with_parts n set count dirty) boot_is
-    ∙ ap (λ (s : Clusters). with_parts (end_of 7 (claims_in (volume_data o f))) s count dirty)
-    (set_is ∙ ap (λ (cells : List (Option ℕ)). fixed_in o.geometry.clusters cells (cells_in bad)) bitmap_cells
+    ∙ ap (λ (s : Clusters). with_parts (owned_end 7 (claims_in (volume_data o f))) s count dirty)
+    (set_is ∙ ap (λ (cells : List (Option ℕ)). fixed_in o.geometry.clusters cells (gathered_cells bad)) bitmap_cells
     ∙ ap (λ (cells : List (Option ℕ)). fixed_in o.geometry.clusters (cells_found (stream_in (volume_data o f) 6 data_kind [])) cells) bad_cells)
-    ∙ ap (λ n. with_parts (end_of 7 (claims_in (volume_data o f))) (facts_of (volume_data o f)).fixed n dirty) (count_is ∙ ap (λ (cells : List (Option ℕ)). length (clusters_in cells)) bad_cells)
-    ∙ ap (λ b. with_parts (end_of 7 (claims_in (volume_data o f))) (facts_of (volume_data o f)).fixed (facts_of (volume_data o f)).bad_count b) (dirty_is ∙ ap is_dirty value)
+    ∙ ap (λ n. with_parts (owned_end 7 (claims_in (volume_data o f))) (facts_of (volume_data o f)).fixed n dirty) (count_is ∙ ap (λ (cells : List (Option ℕ)). length (clusters_in cells)) bad_cells)
+    ∙ ap (λ b. with_parts (owned_end 7 (claims_in (volume_data o f))) (facts_of (volume_data o f)).fixed (facts_of (volume_data o f)).bad_count b) (dirty_is ∙ ap is_dirty value)

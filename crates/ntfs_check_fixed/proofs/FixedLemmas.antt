@@ -6,7 +6,7 @@ use Rattle.ntfs_base.specs.Frames.{Gives, must, ◌>>=◌}
 use Rattle.ntfs_base.specs.declared.refusal.Rule.TheVariants as rule
 use Rattle.ntfs_boot.specs.declared.geometry.Geometry.{Geometry}
 use Rattle.ntfs_check_fixed.specs.Facts.{HasNoValue}
-use Rattle.ntfs_check_fixed.specs.Rows.{HasNoCells, found_by, kind_of, name_of, number_of, row_check, stream_holds_in, stream_row}
+use Rattle.ntfs_check_fixed.specs.Rows.{HasNoClusters, found_by, row_kind, row_name, row_record, row_check, stream_holds_in, stream_row}
 use Rattle.ntfs_check_fixed.specs.declared.rows.Row.{Row}
 use Rattle.ntfs_check_fixed.specs.declared.rows.Row.TheVariants as row
 use Rattle.ntfs_record.specs.FileRecord.{FileRecord, Laid}
@@ -39,7 +39,7 @@ and-false false = refl
 -- ---- a value has no clusters
 
 abbrev IfFound : Result (Gathered ℕ) VolumeFault → Type 0
-IfFound (Ok found) = HasNoCells found.stream × HasNoValue found.stream
+IfFound (Ok found) = HasNoClusters found.stream × HasNoValue found.stream
 IfFound (Err fault) = Unit {0}
 
 runs-found : (c r : ℕ) (first : Part ℕ) (ps : List (Part ℕ)) → IfFound (stream_of_runs c r first ps)
@@ -72,10 +72,10 @@ gather-found : (g : Geometry) (m : Map) (f : ℕ → List ℕ) (r kind : ℕ) (n
 unfolding gather_of gather
 gather-found g m f r kind name = extents-found g.cluster r (extents (lists_of g f (slots_of g m f)) (with_cells g.clusters (slots_of g m f)) r kind name)
 
-pub is-plain : (g : Geometry) (m : Map) (f : ℕ → List ℕ) (r kind : ℕ) (name : List ℕ) (found : Gathered ℕ) → gather_of g m f r kind name ≡ Ok found → HasNoCells found.stream × HasNoValue found.stream
+pub is-plain : (g : Geometry) (m : Map) (f : ℕ → List ℕ) (r kind : ℕ) (name : List ℕ) (found : Gathered ℕ) → gather_of g m f r kind name ≡ Ok found → HasNoClusters found.stream × HasNoValue found.stream
 is-plain g m f r kind name found is = subst IfFound is (gather-found g m f r kind name)
 
-pub value-has-none : (g : Geometry) (m : Map) (f : ℕ → List ℕ) (r kind : ℕ) (name : List ℕ) (found : Gathered ℕ) → gather_of g m f r kind name ≡ Ok found → HasNoCells found.stream
+pub value-has-none : (g : Geometry) (m : Map) (f : ℕ → List ℕ) (r kind : ℕ) (name : List ℕ) (found : Gathered ℕ) → gather_of g m f r kind name ≡ Ok found → HasNoClusters found.stream
 value-has-none g m f r kind name found is = (is-plain g m f r kind name found is).0
 
 -- ---- the root directory
@@ -163,17 +163,17 @@ pub found-is : (o : Result (Gathered ℕ) VolumeFault) (found : Gathered ℕ) �
 found-is (Ok other) found is = cc
 found-is (Err fault) found is = absurd cc
 
-asked-for : (o : Opened) (f : ℕ → List ℕ) (which : Row) (n kind : ℕ) (name : List ℕ) → n ≡ number_of which → kind ≡ kind_of which → name ≡ name_of which
-    → gather_of o.geometry o.map f n kind name ≡ gather_of o.geometry o.map f (number_of which) (kind_of which) (name_of which)
+asked-for : (o : Opened) (f : ℕ → List ℕ) (which : Row) (n kind : ℕ) (name : List ℕ) → n ≡ row_record which → kind ≡ row_kind which → name ≡ row_name which
+    → gather_of o.geometry o.map f n kind name ≡ gather_of o.geometry o.map f (row_record which) (row_kind which) (row_name which)
 asked-for o f which n kind name same_n same_kind same_name =
     ap (λ k. gather_of o.geometry o.map f k kind name) same_n
-    ∙ ap (λ k. gather_of o.geometry o.map f (number_of which) k name) same_kind
-    ∙ ap (gather_of o.geometry o.map f (number_of which) (kind_of which)) same_name
+    ∙ ap (λ k. gather_of o.geometry o.map f (row_record which) k name) same_kind
+    ∙ ap (gather_of o.geometry o.map f (row_record which) (row_kind which)) same_name
 
-pub stream-none : (o : Opened) (f : ℕ → List ℕ) (which : Row) (n kind : ℕ) (name : List ℕ) (found : Option (Gathered ℕ)) → n ≡ number_of which → kind ≡ kind_of which → name ≡ name_of which
+pub stream-none : (o : Opened) (f : ℕ → List ℕ) (which : Row) (n kind : ℕ) (name : List ℕ) (found : Option (Gathered ℕ)) → n ≡ row_record which → kind ≡ row_kind which → name ≡ row_name which
     → found ≡ found_by (gather_of o.geometry o.map f n kind name) → found ≡ None → false ≡ stream_holds_in o f which
 stream-none o f which n kind name found same_n same_kind same_name is none =
-    row-unfound o.geometry o.map.clusters (lists_of o.geometry f (slots_of o.geometry o.map f)) which (gather_of o.geometry o.map f (number_of which) (kind_of which) (name_of which))
+    row-unfound o.geometry o.map.clusters (lists_of o.geometry f (slots_of o.geometry o.map f)) which (gather_of o.geometry o.map f (row_record which) (row_kind which) (row_name which))
     (sym none ∙ is ∙ ap found_by (asked-for o f which n kind name same_n same_kind same_name))
 
 -- ---- all rows

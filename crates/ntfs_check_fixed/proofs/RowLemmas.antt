@@ -1,7 +1,7 @@
 -- What a row says of a stream.
 use Rattle.std.proofs.Common.{◌≡◌, ap, sym, refl, ℕ, Bool, true, false, [], Some, None, if◌then◌else◌, List, ◌∙◌, Option}
 use Rattle.ntfs_check_fixed.specs.Facts.{HasNoValue}
-use Rattle.ntfs_check_fixed.specs.Rows.{HasNoCells}
+use Rattle.ntfs_check_fixed.specs.Rows.{HasNoClusters}
 use Rattle.ntfs_rules.specs.FixedRecords.{are_in_place}
 use Rattle.ntfs_runs.specs.Cells.{are_cells}
 use Rattle.ntfs_runs.specs.Clusters.{vcns}
@@ -14,11 +14,11 @@ resident-none s is = go s.is_resident is
     go true is = refl
     go false is = absurd cc
 
-pub cells-none : (s : Stream ℕ) → HasNoCells s → None ≡ (if s.is_resident then None else Some s.cells) → vcns [] ≡ s.cells
+pub cells-none : (s : Stream ℕ) → HasNoClusters s → None ≡ (if s.is_resident then None else Some s.cells) → vcns [] ≡ s.cells
 unfolding vcns
 cells-none s none is = sym (none (sym (resident-none s is)))
 
-pub none-in-place : (s : Stream ℕ) → HasNoCells s → None ≡ (if s.is_resident then None else Some s.cells) → true ≡ are_in_place 0 s.cells
+pub none-in-place : (s : Stream ℕ) → HasNoClusters s → None ≡ (if s.is_resident then None else Some s.cells) → true ≡ are_in_place 0 s.cells
 unfolding are_in_place
 none-in-place s none is = sym (ap (are_in_place 0) (none (sym (resident-none s is))))
 

@@ -16,9 +16,9 @@ use Rattle.ntfs_volume.specs.declared.fault.VolumeFault.{VolumeFault}
 -- ---- the parts
 
 -- 1 + the highest cluster that record r owns; 0 where it owns none
-unfoldable pub end_of : ℕ → List (Claim ℕ) → ℕ
-end_of r [] = 0
-end_of r (claim ∷ claims) = max (if claim.number == r then claim.cluster + 1 else 0) (end_of r claims)
+unfoldable pub owned_end : ℕ → List (Claim ℕ) → ℕ
+owned_end r [] = 0
+owned_end r (claim ∷ claims) = max (if claim.number == r then claim.cluster + 1 else 0) (owned_end r claims)
 
 -- cluster k stands among the cells
 unfoldable pub is_among : List (Option ℕ) → ℕ → Bool
@@ -37,9 +37,9 @@ value_found (Ok found) = found.stream.value
 value_found (Err fault) = []
 
 -- the same where it stands as an option
-abbrev pub cells_in : Option (Gathered ℕ) → List (Option ℕ)
-cells_in None = []
-cells_in (Some found) = found.stream.cells
+abbrev pub gathered_cells : Option (Gathered ℕ) → List (Option ℕ)
+gathered_cells None = []
+gathered_cells (Some found) = found.stream.cells
 
 abbrev pub value_in : Option (Gathered ℕ) → List ℕ
 value_in None = []
@@ -68,7 +68,7 @@ fixed_in n bitmap bad = set_where n (λ k. is_among bitmap k || is_among bad k)
 -- those of a volume: the end of record 7; the clusters of $Bitmap and of `$Bad`; how many `$Bad` has; the dirty flag
 unfoldable pub facts_of : VolumeData → VolumeFacts
 facts_of v = record {
-  boot_end = end_of 7 (claims_in v);
+  boot_end = owned_end 7 (claims_in v);
   fixed = fixed_in v.geometry.clusters (cells_found (stream_in v 6 data_kind []))
       (cells_found (stream_in v 8 data_kind bad_name));
   bad_count = length (clusters_in (cells_found (stream_in v 8 data_kind bad_name)));
@@ -78,6 +78,6 @@ facts_of v = record {
 -- ---- sets that grow
 
 -- a set of the same bound with further numbers
-pub record Adds (old new : Clusters) (test : ℕ → Bool) : Type 0 where
+pub record AddsClusters (old new : Clusters) (test : ℕ → Bool) : Type 0 where
   pub bound : bound_of new ≡ bound_of old
   pub members : (k : ℕ) → has new k ≡ has old k || test k

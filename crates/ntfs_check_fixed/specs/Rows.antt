@@ -14,25 +14,25 @@ use Rattle.ntfs_volume.specs.Streams.{Gathered, Stream, gather_of, lists_of}
 use Rattle.ntfs_volume.specs.declared.fault.VolumeFault.{VolumeFault}
 
 -- the record that a row looks at
-abbrev pub number_of : Row → ℕ
-number_of row.Mft = 0
-number_of row.Mirror = 1
-number_of row.Log = 2
-number_of row.Volume = 3
-number_of row.Root = 5
-number_of row.Bitmap = 6
-number_of row.Boot = 7
-number_of row.Bad = 8
+abbrev pub row_record : Row → ℕ
+row_record row.Mft = 0
+row_record row.Mirror = 1
+row_record row.Log = 2
+row_record row.Volume = 3
+row_record row.Root = 5
+row_record row.Bitmap = 6
+row_record row.Boot = 7
+row_record row.Bad = 8
 
 -- the type of the stream
-abbrev pub kind_of : Row → ℕ
-kind_of row.Volume = volume_information_kind
-kind_of other = data_kind
+abbrev pub row_kind : Row → ℕ
+row_kind row.Volume = volume_information_kind
+row_kind other = data_kind
 
 -- its name
-abbrev pub name_of : Row → List ℕ
-name_of row.Bad = bad_name
-name_of other = []
+abbrev pub row_name : Row → List ℕ
+row_name row.Bad = bad_name
+row_name other = []
 
 -- what a row says of the stream that was gathered; that of the root directory looks at none
 abbrev pub stream_row : Geometry → List ℕ → Lists → Row → Result (Gathered ℕ) VolumeFault → Bool
@@ -49,7 +49,7 @@ stream_row g table listings row.Bad found = row_8 listings found
 abbrev pub stream_holds_in : Opened → (ℕ → List ℕ) → Row → Bool
 stream_holds_in o f which =
     stream_row o.geometry o.map.clusters (lists_of o.geometry f (slots_of o.geometry o.map f)) which
-    (gather_of o.geometry o.map f (number_of which) (kind_of which) (name_of which))
+    (gather_of o.geometry o.map f (row_record which) (row_kind which) (row_name which))
 
 -- a record is as its row says
 abbrev pub holds_in : Opened → (ℕ → List ℕ) → Row → Bool
@@ -58,11 +58,11 @@ holds_in o f other = stream_holds_in o f other
 
 -- the row as a line of the table
 abbrev pub row_check : Opened → (ℕ → List ℕ) → Row → Check ℕ
-row_check o f which = check (holds_in o f which) (number_of which)
+row_check o f which = check (holds_in o f which) (row_record which)
 
 -- a value of a stream has no clusters
-abbrev pub HasNoCells : Stream ℕ → Type 0
-HasNoCells s = s.is_resident ≡ true → s.cells ≡ []
+abbrev pub HasNoClusters : Stream ℕ → Type 0
+HasNoClusters s = s.is_resident ≡ true → s.cells ≡ []
 
 -- a stream that was gathered, or none
 abbrev pub found_by : {X : Type 0} → Result (Gathered X) VolumeFault → Option (Gathered X)

@@ -13,7 +13,7 @@ ghost use Rattle.ntfs_volume.specs.Located.{slot_at, slots_of, with_cells};
 ghost use Rattle.ntfs_volume.specs.Opened.{HasClusters};
 ghost use Rattle.ntfs_volume.specs.Streams.{IsReadable, gather_of};
 
-use crate::rows::{Row, kind_of, name_of, number_of, stream_row};
+use crate::rows::{Row, row_kind, row_name, row_record, stream_row};
 use ntfs_base::{Image, Rule};
 use ntfs_record::parse;
 use ntfs_rules::{CheckFault, cut_of, damaged, has_list};
@@ -81,14 +81,14 @@ fn stream_holds<G: Image>(
     ensures cut { IfErr result (λ fault. IsSettled (check_origin fault) → ⊥) }
     ensures reads { OnlyReads G.Image check_origin image.old image.new result }
 {
-    let has_list = has_list(alloc, image, table, number_of(row))?;
+    let has_list = has_list(alloc, image, table, row_record(row))?;
     let found = find_stream(
         alloc,
         image,
         table,
-        number_of(row),
-        kind_of(row),
-        name_of(row),
+        row_record(row),
+        row_kind(row),
+        row_name(row),
     )?;
     match found {
         None => Ok(false),
@@ -130,7 +130,7 @@ fn check_row<G: Image>(
     if holds(alloc, image, table, row)? {
         Ok(())
     } else {
-        Err(damaged(Rule::C15, number_of(row)))
+        Err(damaged(Rule::C15, row_record(row)))
     }
 }
 

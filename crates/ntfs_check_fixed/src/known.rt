@@ -5,8 +5,8 @@ ghost use Rattle.std.specs.List.{flat_map};
 ghost use Rattle.ntfs_base.specs.Bytes.{Cluster, cluster_at};
 ghost use Rattle.ntfs_base.specs.Frames.{IfTold, IsSettled, OnlyReads};
 ghost use Rattle.ntfs_bitmap.specs.ClusterSet.{bound_of, has, in_run};
-ghost use Rattle.ntfs_check_fixed.specs.Facts.{Adds, HasNoValue, cells_in, end_of, facts_of, fixed_in, is_among, is_dirty, value_in};
-ghost use Rattle.ntfs_check_fixed.specs.Rows.{HasNoCells};
+ghost use Rattle.ntfs_check_fixed.specs.Facts.{AddsClusters, HasNoValue, gathered_cells, owned_end, facts_of, fixed_in, is_among, is_dirty, value_in};
+ghost use Rattle.ntfs_check_fixed.specs.Rows.{HasNoClusters};
 ghost use Rattle.ntfs_rules.specs.Accepts.{claims_in};
 ghost use Rattle.ntfs_rules.specs.FixedRecords.{are_in_place, c15};
 ghost use Rattle.ntfs_rules.specs.Outcome.{check_origin};
@@ -19,7 +19,7 @@ ghost use Rattle.ntfs_volume.specs.StreamBytes.{clusters_in};
 ghost use Rattle.ntfs_volume.specs.Streams.{IsReadable};
 
 use crate::fixed::find_stream;
-use crate::rows::{Row, name_of, runs_of};
+use crate::rows::{Row, row_name, runs_of};
 use ntfs_base::Image;
 use ntfs_bitmap::{ClaimFault, ClusterSet};
 use ntfs_boot::Geometry;
@@ -34,7 +34,7 @@ use std::marker::Model;
 fn claim(set: &mut ClusterSet, first: u64, length: u64) -> Result<(), AllocError>
     requires within { first + length ≤ bound_of set.old }
     requires free { (k : ℕ) → first ≤ k → k < first + length → has set.old k ≡ false }
-    ensures { OnOk result (Adds set.old set.new (in_run first length)) }
+    ensures { OnOk result (AddsClusters set.old set.new (in_run first length)) }
 {
     match set.claim_run(first, length) {
         Ok(()) => Ok(()),
@@ -46,7 +46,7 @@ fn claim(set: &mut ClusterSet, first: u64, length: u64) -> Result<(), AllocError
 fn add_run(set: &mut ClusterSet, first: u64, length: u64) -> Result<(), AllocError>
     requires within { first + length ≤ bound_of set.old }
     requires few { bound_of set.old < 2 ^ 63 }
-    ensures { OnOk result (Adds set.old set.new (in_run first length)) }
+    ensures { OnOk result (AddsClusters set.old set.new (in_run first length)) }
 {
     let end = first + length;
     let mut at = first;
@@ -63,7 +63,7 @@ fn add_run(set: &mut ClusterSet, first: u64, length: u64) -> Result<(), AllocErr
 fn add_runs(set: &mut ClusterSet, runs: &[Run]) -> Result<(), AllocError>
     requires cells { are_cells true (bound_of set.old) (vcns runs.now) ≡ true }
     requires few { bound_of set.old < 2 ^ 63 }
-    ensures { OnOk result (Adds set.old set.new (is_among (vcns runs.now))) }
+    ensures { OnOk result (AddsClusters set.old set.new (is_among (vcns runs.now))) }
 {
     'runs: for run in runs {
         match run.lcn {
@@ -104,7 +104,7 @@ fn count_clusters(runs: &[Run]) -> u64
 
 /// 1 + the highest cluster of an owner, where it is the record of a number; else 0.
 fn end_in(owner: &Owner, number: u64) -> u64
-    ensures { (n : ℕ) → n < 2 ^ 63 → LiesBelow n owner.now → result ≡ end_of number (owner_claims owner.now) }
+    ensures { (n : ℕ) → n < 2 ^ 63 → LiesBelow n owner.now → result ≡ owned_end number (owner_claims owner.now) }
 {
     if owner.number != number {
         return 0;
@@ -113,9 +113,9 @@ fn end_in(owner: &Owner, number: u64) -> u64
 }
 
 /// 1 + the highest cluster that the record of a number has; 0 where it has none.
-fn end_of(owners: &[Owner], number: u64) -> u64
+fn owned_end(owners: &[Owner], number: u64) -> u64
     ensures { (n : ℕ) → n < 2 ^ 63 → All (LiesBelow n) owners.now
-        → result ≡ end_of number (flat_map owner_claims owners.now) }
+        → result ≡ owned_end number (flat_map owner_claims owners.now) }
 {
     let mut end = 0u64;
     'owners: for owner in owners {
@@ -157,7 +157,7 @@ fn is_flagged(found: &Option<Stream>) -> bool
 /// The runs of a stream, where there is one that isn't resident.
 fn runs_found<'a>(geometry: &Geometry, found: &'a Option<Stream>) -> &'a [Run]
     requires { IfSome found.now (λ s. IsReadable geometry.now s.stream) }
-    ensures cells { IfSome found.now (λ s. HasNoCells s.stream) → vcns result.now ≡ cells_in found.now }
+    ensures cells { IfSome found.now (λ s. HasNoClusters s.stream) → vcns result.now ≡ gathered_cells found.now }
     ensures below { are_cells true geometry.now.clusters (vcns result.now) ≡ true }
 {
     match found {
@@ -257,7 +257,7 @@ pub fn read_facts<G: Image>(
 {
     let geometry = table.geometry();
     let bitmap = find_stream(alloc, image, table, 6, 0x80, &[])?;
-    let bad = find_stream(alloc, image, table, 8, 0x80, name_of(Row::Bad))?;
+    let bad = find_stream(alloc, image, table, 8, 0x80, row_name(Row::Bad))?;
     let information = find_stream(alloc, image, table, 3, 0x70, &[])?;
     let bad_runs = runs_found(geometry, &bad);
     let bad_count = count_clusters(bad_runs);
@@ -268,7 +268,7 @@ pub fn read_facts<G: Image>(
         bad_runs,
     )?;
     Ok(Facts {
-        boot_end: end_of(owners, 7),
+        boot_end: owned_end(owners, 7),
         fixed,
         bad_count,
         dirty: is_flagged(&information),

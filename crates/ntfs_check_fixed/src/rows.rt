@@ -3,7 +3,7 @@
 ghost use Rattle.std.specs.Prelude.{◌≡◌, ◌≤◌, ◌+◌, ◌^◌, ◌&&◌, ◌∷◌, [], length, true, ℕ, Ok, Some};
 ghost use Rattle.ntfs_base.specs.Bytes.{clusters_for, number_at};
 ghost use Rattle.ntfs_boot.specs.Geometry.{IsGood};
-ghost use Rattle.ntfs_check_fixed.specs.Rows.{HasNoCells, has_version, kind_of, name_of, number_of, stream_row};
+ghost use Rattle.ntfs_check_fixed.specs.Rows.{HasNoClusters, has_version, row_kind, row_name, row_record, stream_row};
 ghost use Rattle.ntfs_rules.specs.FixedRecords.{begin_with, is_bitmap, is_solid};
 ghost use Rattle.ntfs_rules.specs.FixedRecords as rules;
 ghost use Rattle.ntfs_runs.specs.Cells.{are_cells};
@@ -31,8 +31,8 @@ pub(crate) enum Row {
 }
 
 /// The record that a row looks at.
-pub(crate) fn number_of(row: Row) -> u64
-    ensures { result ≡ number_of row }
+pub(crate) fn row_record(row: Row) -> u64
+    ensures { result ≡ row_record row }
 {
     match row {
         Row::Mft => 0,
@@ -47,8 +47,8 @@ pub(crate) fn number_of(row: Row) -> u64
 }
 
 /// The type of the stream.
-pub(crate) fn kind_of(row: Row) -> u32
-    ensures { result ≡ kind_of row }
+pub(crate) fn row_kind(row: Row) -> u32
+    ensures { result ≡ row_kind row }
 {
     match row {
         Row::Volume => 0x70,
@@ -57,8 +57,8 @@ pub(crate) fn kind_of(row: Row) -> u32
 }
 
 /// Its name.
-pub(crate) fn name_of(row: Row) -> &'static [u8]
-    ensures { result.now ≡ name_of row }
+pub(crate) fn row_name(row: Row) -> &'static [u8]
+    ensures { result.now ≡ row_name row }
 {
     match row {
         Row::Bad => &[0x24, 0, 0x42, 0, 0x61, 0, 0x64, 0],
@@ -87,7 +87,7 @@ fn is_resident(stream: &Stream) -> bool
 
 /// The runs of a stream; a resident one has none.
 pub(crate) fn runs_of(stream: &Stream) -> &[Run]
-    ensures cells { HasNoCells stream.now.stream → vcns result.now ≡ stream.now.stream.cells }
+    ensures cells { HasNoClusters stream.now.stream → vcns result.now ≡ stream.now.stream.cells }
     ensures below { (n : ℕ) → are_cells true n stream.now.stream.cells ≡ true
         → are_cells true n (vcns result.now) ≡ true }
     ensures within { AreWithin result.now }
@@ -101,7 +101,7 @@ pub(crate) fn runs_of(stream: &Stream) -> &[Run]
 /// The cells of a stream begin with so many clusters in a row, from this one on.
 fn begins_with_row(stream: &Stream, first: u64, count: u64) -> bool
     requires { first + count ≤ 2 ^ 64 }
-    ensures { HasNoCells stream.now.stream
+    ensures { HasNoClusters stream.now.stream
         → result ≡ begin_with (clusters_in (row count (Some first))) stream.now.stream.cells }
 {
     Cells::new(runs_of(stream)).begin_with_row(first, count)
@@ -110,7 +110,7 @@ fn begins_with_row(stream: &Stream, first: u64, count: u64) -> bool
 /// The cells of a stream begin with the clusters of runs.
 fn begins_with_runs(stream: &Stream, runs: &[Run]) -> bool
     requires { AreWithin runs.now }
-    ensures { HasNoCells stream.now.stream
+    ensures { HasNoClusters stream.now.stream
         → result ≡ begin_with (clusters_in (vcns runs.now)) stream.now.stream.cells }
 {
     Cells::new(runs_of(stream)).begin_with_runs(runs)
@@ -119,7 +119,7 @@ fn begins_with_runs(stream: &Stream, runs: &[Run]) -> bool
 /// The cells of a stream begin with cluster 0.
 #[tactic(auto, unfolding(ntfs_runs::specs::Clusters::row, ntfs_volume::specs::StreamBytes::clusters_in))]
 fn begins_at_zero(stream: &Stream) -> bool
-    ensures { HasNoCells stream.now.stream → result ≡ begin_with (0 ∷ []) stream.now.stream.cells }
+    ensures { HasNoClusters stream.now.stream → result ≡ begin_with (0 ∷ []) stream.now.stream.cells }
 {
     begins_with_row(stream, 0, 1)
 }
@@ -128,7 +128,7 @@ fn begins_at_zero(stream: &Stream) -> bool
 fn is_in_place(geometry: &Geometry, stream: &Stream) -> bool
     requires good { IsGood geometry.now }
     requires readable { IsReadable geometry.now stream.now.stream }
-    ensures { HasNoCells stream.now.stream → result ≡ rules.are_in_place 0 stream.now.stream.cells }
+    ensures { HasNoClusters stream.now.stream → result ≡ rules.are_in_place 0 stream.now.stream.cells }
 {
     match stream.runs() {
         None => true,
@@ -177,7 +177,7 @@ fn is_solid(geometry: &Geometry, stream: &Stream) -> bool
 fn row_0(geometry: &Geometry, table: &[Run], stream: &Stream) -> bool
     requires good { IsGood geometry.now }
     requires within { AreWithin table.now }
-    ensures { HasNoCells stream.now.stream
+    ensures { HasNoClusters stream.now.stream
         → result ≡ rules.row_0 geometry.now (clusters_in (vcns table.now)) (Ok stream.now) }
 {
     let count = clusters_for(geometry.record_size, geometry.cluster);
@@ -190,7 +190,7 @@ fn row_0(geometry: &Geometry, table: &[Run], stream: &Stream) -> bool
 #[tactic(auto, unfolding(ntfs_rules::specs::FixedRecords::row_1))]
 fn row_1(geometry: &Geometry, has_list: bool, stream: &Stream) -> bool
     requires good { IsGood geometry.now }
-    ensures { (listings : Lists) → (listings 1).is_there ≡ has_list → HasNoCells stream.now.stream
+    ensures { (listings : Lists) → (listings 1).is_there ≡ has_list → HasNoClusters stream.now.stream
         → result ≡ rules.row_1 geometry.now listings (Ok stream.now) }
 {
     let size = 4 * geometry.record_size;
@@ -242,7 +242,7 @@ fn row_6(geometry: &Geometry, has_list: bool, stream: &Stream) -> bool
 /// $Boot.
 #[tactic(auto, unfolding(ntfs_rules::specs::FixedRecords::row_7))]
 fn row_7(geometry: &Geometry, has_list: bool, stream: &Stream) -> bool
-    ensures { (listings : Lists) → (listings 7).is_there ≡ has_list → HasNoCells stream.now.stream
+    ensures { (listings : Lists) → (listings 7).is_there ≡ has_list → HasNoClusters stream.now.stream
         → result ≡ rules.row_7 geometry.now listings (Ok stream.now) }
 {
     !has_list && is_solid(geometry, stream) && begins_at_zero(stream)
@@ -253,7 +253,7 @@ fn row_7(geometry: &Geometry, has_list: bool, stream: &Stream) -> bool
 fn row_8(geometry: &Geometry, has_list: bool, stream: &Stream) -> bool
     requires good { IsGood geometry.now }
     requires readable { IsReadable geometry.now stream.now.stream }
-    ensures { (listings : Lists) → (listings 8).is_there ≡ has_list → HasNoCells stream.now.stream
+    ensures { (listings : Lists) → (listings 8).is_there ≡ has_list → HasNoClusters stream.now.stream
         → result ≡ rules.row_8 listings (Ok stream.now) }
 {
     !has_list
@@ -274,7 +274,7 @@ pub(crate) fn stream_row(
     requires good { IsGood geometry.now }
     requires within { AreWithin table.now }
     requires readable { IsReadable geometry.now stream.now.stream }
-    ensures { (listings : Lists) → (listings (number_of row)).is_there ≡ has_list → HasNoCells stream.now.stream
+    ensures { (listings : Lists) → (listings (row_record row)).is_there ≡ has_list → HasNoClusters stream.now.stream
         → result ≡ stream_row geometry.now (clusters_in (vcns table.now)) listings row (Ok stream.now) }
 {
     match row {

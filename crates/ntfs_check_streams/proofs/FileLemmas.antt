@@ -9,12 +9,15 @@ use Rattle.ntfs_base.specs.Frames.{IsSettled}
 use Rattle.ntfs_boot.specs.declared.geometry.Geometry.{Geometry}
 use Rattle.ntfs_check_streams.proofs.IdLemmas.{ids-listed, ids-own, own-all}
 use Rattle.ntfs_check_streams.proofs.ListedLemmas.{listed-at}
-use Rattle.ntfs_check_streams.proofs.RecordLemmas.{cells-at, record-at, unread-idle, whole-at}
+use Rattle.ntfs_check_records.proofs.AnswerLemmas.{answers-by, answers-of}
+use Rattle.ntfs_check_records.proofs.RecordLemmas.{cells-at, record-at, unread-idle, whole-at}
 use Rattle.ntfs_check_streams.proofs.SaidLemmas.{Record, said-listed, said-own, stream-said}
-use Rattle.ntfs_check_streams.specs.Asked.{KeepsEleven, asked_at, celled, cells_of, keeps_rule, lists_in, passes_asked, records_of}
+use Rattle.ntfs_check_records.specs.Asked.{asked_at, passes_asked}
+use Rattle.ntfs_check_records.specs.Reading.{records_of}
+use Rattle.ntfs_check_streams.specs.Asked.{KeepsEleven, celled, clusters_read, keeps_rule, lists_in, stream_answer}
 use Rattle.ntfs_check_streams.specs.Join.{is_stream, join_shown}
-use Rattle.ntfs_check_streams.specs.Reading.{Answers, is_readable}
-use Rattle.ntfs_check_streams.specs.Said.{all_listed, are_listed, are_own, are_streams, good_listed, lead_in, shown_in}
+use Rattle.ntfs_check_records.specs.Reading.{Answers, is_readable}
+use Rattle.ntfs_check_streams.specs.Said.{all_listed, is_listed_stream, are_own, are_streams, good_listed, lead_in, shown_in}
 use Rattle.ntfs_check_streams.specs.declared.join.Joined.TheVariants as joined
 use Rattle.ntfs_record.specs.FileRecord.{Attribute, FileRecord, Laid}
 use Rattle.ntfs_record.specs.Slots.{Slot}
@@ -70,25 +73,25 @@ list-answer g f r file slots lead a is listing =
 -- ---- as the rule has it
 
 streams-same : (o : Opened) (f : ℕ → List ℕ) (r : ℕ) (file : FileRecord) → KeepsEleven (volume_data o f) → slot_at (records_of o f) r ≡ sound_located file
-    → slot_at (cells_of o f) r ≡ celled o.geometry.clusters (sound_located file) → (file.head.base == 0) ≡ true
+    → slot_at (clusters_read o f) r ≡ celled o.geometry.clusters (sound_located file) → (file.head.base == 0) ≡ true
     → are_streams o.geometry.cluster r file (file_lists o.geometry f file) (records_of o f)
-    ≡ list_all (is_in_stream o.geometry.cluster (lists_in o f) (cells_of o f) r (celled o.geometry.clusters (sound_located file))) (ids_of (cells_of o f) r (celled o.geometry.clusters (sound_located file)))
+    ≡ list_all (is_in_stream o.geometry.cluster (lists_in o f) (clusters_read o f) r (celled o.geometry.clusters (sound_located file))) (ids_of (clusters_read o f) r (celled o.geometry.clusters (sound_located file)))
 streams-same o f r file keeps is with_is base = elim (cases_Bool listing.is_there) [
   | inl there ↦
       let listed = listed-at o f r file keeps is with_is base true there in
-      let good = (parts listing.is_good (files.are_listed listing.entries (members_from r file.head.sequence 0 (cells_of o f))) listed).0 in
-      let are = (parts listing.is_good (files.are_listed listing.entries (members_from r file.head.sequence 0 (cells_of o f))) listed).1 in
-      let of : ℕ → List ℕ → Bool = are_listed c r file.head.sequence slots listing.entries (lead_in file) in
+      let good = (parts listing.is_good (files.are_listed listing.entries (members_from r file.head.sequence 0 (clusters_read o f))) listed).0 in
+      let are = (parts listing.is_good (files.are_listed listing.entries (members_from r file.head.sequence 0 (clusters_read o f))) listed).1 in
+      let of : ℕ → List ℕ → Bool = is_listed_stream c r file.head.sequence slots listing.entries (lead_in file) in
       let same : (id : Id) → test id ≡ of id.kind id.name = (λ id. stream-said o f r file id keeps is with_is base ∙ said-listed c r file listing slots id.kind id.name there good) in
       streams-listed c r file listing slots there
       ∙ ap (λ b. b && all_listed c r file.head.sequence slots listing.entries (lead_in file) (shown_in file)) good
-      ∙ sym (ids-listed test of same r t (cells_of o f) listing.entries are
+      ∙ sym (ids-listed test of same r t (clusters_read o f) listing.entries are
       ∙ ap (λ b. b && list_all (λ (entry : Listed). of entry.kind entry.name) listing.entries) (own-all test of same o.geometry.clusters file.head (placed_of file)))
   | inr without ↦
       let of : ℕ → List ℕ → Bool = (λ kind name. is_stream c (join_shown kind name joined.Nothing (shown_in file))) in
       let same : (id : Id) → test id ≡ of id.kind id.name = (λ id. stream-said o f r file id keeps is with_is base ∙ said-own o.geometry f r file slots id.kind id.name without) in
       streams-own c r file listing slots without
-      ∙ sym (ids-own test r t (cells_of o f) with_is (listed-at o f r file keeps is with_is base false without)
+      ∙ sym (ids-own test r t (clusters_read o f) with_is (listed-at o f r file keeps is with_is base false without)
       ∙ own-all test of same o.geometry.clusters file.head (placed_of file))
 ]
   where
@@ -105,7 +108,7 @@ streams-same o f r file keeps is with_is base = elim (cases_Bool listing.is_ther
     t = celled o.geometry.clusters (sound_located file)
 
     test : Id → Bool
-    test = is_in_stream o.geometry.cluster (lists_in o f) (cells_of o f) r (celled o.geometry.clusters (sound_located file))
+    test = is_in_stream o.geometry.cluster (lists_in o f) (clusters_read o f) r (celled o.geometry.clusters (sound_located file))
 
     parts : (a b : Bool) → (a && b) ≡ true → (a ≡ true) × (b ≡ true)
     parts true b both = (refl, both)
@@ -125,7 +128,7 @@ keeps-said o f r file keeps is =
 -- ---- by the bytes on disk
 
 pub asked-idle : (o : Opened) (f : ℕ → List ℕ) (n : ℕ) (raw : List ℕ) → KeepsEleven (volume_data o f) → 0 < o.geometry.record_size → raw_record o.geometry o.map f n ≡ Some raw
-    → is_readable (located_slot n (Some raw)) ≡ false → true ≡ asked_at o f n
+    → is_readable (located_slot n (Some raw)) ≡ false → true ≡ asked_at (stream_answer o f) o f n
 asked-idle o f n raw keeps some held unread =
     let is : is_readable (record_at o f n) ≡ false = ap (λ raw. is_readable (located_slot n raw)) held ∙ unread in
     let at : slot_at (records_of o f) n ≡ record_at o f n = record-at o f n some in
@@ -135,19 +138,15 @@ asked-idle o f n raw keeps some held unread =
 
 asked-said : (o : Opened) (f : ℕ → List ℕ) (n : ℕ) (raw : List ℕ) (file : FileRecord) → KeepsEleven (volume_data o f) → 0 < o.geometry.record_size → raw_record o.geometry o.map f n ≡ Some raw
     → located_slot n (Some raw) ≡ sound_located file
-    → (not (file.head.base == 0) || are_streams o.geometry.cluster n file (file_lists o.geometry f file) (records_of o f)) ≡ asked_at o f n
+    → (not (file.head.base == 0) || are_streams o.geometry.cluster n file (file_lists o.geometry f file) (records_of o f)) ≡ asked_at (stream_answer o f) o f n
 asked-said o f n raw file keeps some held is =
     let said : record_at o f n ≡ sound_located file = ap (located_slot n) held ∙ is in
     keeps-said o f n file keeps (record-at o f n some ∙ said)
-    ∙ sym (ap (λ (s : Record). passes_asked o f n s) said)
-
-answers-of : (test : Bool) (result : Result Bool CheckFault) → IfOk result (λ is. is ≡ test) → IfErr result (λ fault. IsSettled (check_origin fault) → ⊥) → Answers test result
-answers-of test (Ok is) found cut = found
-answers-of test (Err fault) found cut = cut
+    ∙ sym (ap (λ (s : Record). passes_asked (stream_answer o f) n s) said)
 
 pub said-answers : (o : Opened) (f : ℕ → List ℕ) (n : ℕ) (raw : List ℕ) (file : FileRecord) (result : Result Bool CheckFault) → KeepsEleven (volume_data o f) → 0 < o.geometry.record_size
     → raw_record o.geometry o.map f n ≡ Some raw → located_slot n (Some raw) ≡ sound_located file
     → IfOk result (λ is. is ≡ (not (file.head.base == 0) || are_streams o.geometry.cluster n file (file_lists o.geometry f file) (records_of o f)))
-    → IfErr result (λ fault. IsSettled (check_origin fault) → ⊥) → Answers (asked_at o f n) result
+    → IfErr result (λ fault. IsSettled (check_origin fault) → ⊥) → Answers (asked_at (stream_answer o f) o f n) result
 said-answers o f n raw file result keeps some held is found cut =
-    subst (λ b. Answers b result) (asked-said o f n raw file keeps some held is) (answers-of _ result found cut)
+    answers-by _ _ result (asked-said o f n raw file keeps some held is) (answers-of _ result found cut)

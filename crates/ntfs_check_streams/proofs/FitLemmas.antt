@@ -3,7 +3,7 @@ use Rattle.std.proofs.Common.{◌≡◌, ◌≤◌, ◌+◌, ◌++◌, ℕ, zero
 use Rattle.std.specs.Prelude.{find}
 use Rattle.std.specs.List.{AllByRecursion}
 use Rattle.ntfs_check_streams.proofs.JoinLemmas.{AreFit, CellExtent, IsFit}
-use Rattle.ntfs_check_streams.specs.Asked.{KeepsEleven, cells_of, lists_in}
+use Rattle.ntfs_check_streams.specs.Asked.{KeepsEleven, clusters_read, lists_in}
 use Rattle.ntfs_fixup.specs.Fixups.{unfix_of}
 use Rattle.ntfs_fixup.specs.declared.header.Magic.TheVariants.{File}
 use Rattle.ntfs_fixup.specs.declared.unfixing.FixFault.{FixFault}
@@ -87,7 +87,7 @@ slots-spans n r k zero i slot all = tt
 slots-spans n r k (suc count) zero slot all = celled-spans n r (slot k).head (slot k).attributes (all k)
 slots-spans n r k (suc count) (suc i) slot all = slots-spans n (suc r) (suc k) count i slot all
 
-volume-spans : (o : Opened) (f : ℕ → List ℕ) (i : ℕ) → HaveSpans (slot_at (cells_of o f) i)
+volume-spans : (o : Opened) (f : ℕ → List ℕ) (i : ℕ) → HaveSpans (slot_at (clusters_read o f) i)
 unfolding with_cells slots_of
 volume-spans o f i =
     slots-spans o.geometry.clusters 0 0 _ i (λ n. located_slot n (raw_record o.geometry o.map f n)) (λ n. slot-spans n (raw_record o.geometry o.map f n))
@@ -107,19 +107,19 @@ cells-each n (suc i) (s ∷ slots) none = cells-each (suc n) i slots (passed-ste
 abbrev AreFitIn : Slot (Located (Laid (Cells ℕ))) → Type 0
 AreFitIn s = AllByRecursion IsFit s.attributes
 
-pub slot-fit : (o : Opened) (f : ℕ → List ℕ) (i : ℕ) → KeepsEleven (volume_data o f) → AreFitIn (slot_at (cells_of o f) i)
+pub slot-fit : (o : Opened) (f : ℕ → List ℕ) (i : ℕ) → KeepsEleven (volume_data o f) → AreFitIn (slot_at (clusters_read o f) i)
 slot-fit o f i keeps =
-    let slots = cells_of o f in
+    let slots = clusters_read o f in
     all-both (λ (a : Attribute (Located (Laid (Cells ℕ)))). has_cells a ≡ true) (λ a. Spans a.face) IsFit (λ a cells spans. record { right = cells; spans = spans }) (slot_at slots i).attributes
     (all-tested has_cells (slot_at slots i).attributes (cells-each 0 i slots (sym (c7-is o f) ∙ keeps.cells))) (volume-spans o f i)
 
 -- ---- extents
 
-fit-found : (o : Opened) (f : ℕ → List ℕ) (r kind : ℕ) (name : List ℕ) (found : List CellExtent) → KeepsEleven (volume_data o f) → extents (lists_in o f) (cells_of o f) r kind name ≡ Ok found → AreFit found
+fit-found : (o : Opened) (f : ℕ → List ℕ) (r kind : ℕ) (name : List ℕ) (found : List CellExtent) → KeepsEleven (volume_data o f) → extents (lists_in o f) (clusters_read o f) r kind name ≡ Ok found → AreFit found
 fit-found o f r kind name found keeps is =
-    all-weaker (IsMember (cells_of o f) r) (λ (e : CellExtent). IsFit e.attribute)
-    (λ e member. all-at IsFit (slot_at (cells_of o f) e.number).attributes e.attribute (slot-fit o f e.number keeps) member.attribute)
-    found (members (lists_in o f) (cells_of o f) r kind name found is)
+    all-weaker (IsMember (clusters_read o f) r) (λ (e : CellExtent). IsFit e.attribute)
+    (λ e member. all-at IsFit (slot_at (clusters_read o f) e.number).attributes e.attribute (slot-fit o f e.number keeps) member.attribute)
+    found (members (lists_in o f) (clusters_read o f) r kind name found is)
 
 found-step : {A : Type 0} (P : A → Type 0) (b : Bool) (x y : A) (rest : Option A) → P x → (rest ≡ Some y → P y) → (if b then Some x else rest) ≡ Some y → P y
 found-step P true x y rest px later is = let same : x ≡ y = cc in subst P same px
@@ -148,7 +148,7 @@ fit-append : (xs ys : List CellExtent) → AreFit xs → AreFit ys → AreFit (x
 fit-append [] ys front back = back
 fit-append (x ∷ xs) ys front back = (front.0, fit-append xs ys front.1 back)
 
-pub all-fit : (o : Opened) (f : ℕ → List ℕ) (r kind : ℕ) (name : List ℕ) (s : Slot (Located (Laid (Cells ℕ)))) → KeepsEleven (volume_data o f) → slot_at (cells_of o f) r ≡ s
-    → (es : List CellExtent) → extents (lists_in o f) (cells_of o f) r kind name ≡ Ok es → AreFit (list_extents r kind name s ++ es)
+pub all-fit : (o : Opened) (f : ℕ → List ℕ) (r kind : ℕ) (name : List ℕ) (s : Slot (Located (Laid (Cells ℕ)))) → KeepsEleven (volume_data o f) → slot_at (clusters_read o f) r ≡ s
+    → (es : List CellExtent) → extents (lists_in o f) (clusters_read o f) r kind name ≡ Ok es → AreFit (list_extents r kind name s ++ es)
 all-fit o f r kind name s keeps is es found =
     fit-append (list_extents r kind name s) es (lead-fit r kind name s (subst AreFitIn is (slot-fit o f r keeps))) (fit-found o f r kind name es keeps found)

@@ -7,7 +7,7 @@ use Rattle.std.proofs.lemmas.Bool.Decides.{nat_tests}
 use Rattle.std.proofs.lemmas.List.{length-append}
 use Rattle.ntfs_base.specs.Frames.{must, ◌>>=◌}
 use Rattle.ntfs_base.specs.declared.refusal.Rule.TheVariants as rule
-use Rattle.ntfs_check_streams.specs.Join.{are_joined, is_stream, join, join_all, span_of, spans_of, start}
+use Rattle.ntfs_check_streams.specs.Join.{are_joined, is_stream, join, join_all, face_span, spans_of, start}
 use Rattle.ntfs_check_streams.specs.declared.join.Joined.{Joined}
 use Rattle.ntfs_check_streams.specs.declared.join.Joined.TheVariants as joined
 use Rattle.ntfs_check_streams.specs.declared.join.Span.{Span}
@@ -133,7 +133,7 @@ first-joined c first ps right are is =
     step false = refl
 
 start-runs : (c kind : ℕ) (e : CellExtent) (es : List CellExtent) → AreFit (e ∷ es) → e.attribute.face.is_resident ≡ false
-    → room_from c 0 e.attribute.face.size e.attribute.face.valid (map part_of (e ∷ es)) ≡ is_stream c (join_all kind (start (span_of e.attribute.face)) (spans_of es))
+    → room_from c 0 e.attribute.face.size e.attribute.face.valid (map part_of (e ∷ es)) ≡ is_stream c (join_all kind (start (face_span e.attribute.face)) (spans_of es))
 unfolding join_from cells_in is_stream
 start-runs c kind e es fit runs = rw runs (step (e.attribute.face.lowest == 0) refl)
   where
@@ -162,7 +162,7 @@ unfolding stream_of
 runs-first c first ps is = rw is refl
 
 first-by : (c kind : ℕ) (e : CellExtent) (es : List CellExtent) (resident : Bool) → e.attribute.face.is_resident ≡ resident → AreFit (e ∷ es)
-    → (if resident then are_values kind (map part_of es) else is_joined (stream_of c 0 (map part_of (e ∷ es)))) ≡ is_stream c (join_all kind (start (span_of e.attribute.face)) (spans_of es))
+    → (if resident then are_values kind (map part_of es) else is_joined (stream_of c 0 (map part_of (e ∷ es)))) ≡ is_stream c (join_all kind (start (face_span e.attribute.face)) (spans_of es))
 first-by c kind e es true is fit = rw is (values-joined c kind es)
 first-by c kind e es false is fit =
     ap is_joined (runs-first c (part_of e) (map part_of es) is)
@@ -177,7 +177,7 @@ stream-joined c kind (e ∷ es) fit = first-by c kind e es e.attribute.face.is_r
 join-append : (kind : ℕ) (before : Joined) (xs ys : List CellExtent) → join_all kind before (spans_of (xs ++ ys)) ≡ join_all kind (join_all kind before (spans_of xs)) (spans_of ys)
 unfolding join_all
 join-append kind before [] ys = refl
-join-append kind before (x ∷ xs) ys = join-append kind (join kind before (span_of x.attribute.face)) xs ys
+join-append kind before (x ∷ xs) ys = join-append kind (join kind before (face_span x.attribute.face)) xs ys
 
 -- with a lead
 pub found-joined : (c kind : ℕ) (lead : List CellExtent) (found : Result (List CellExtent) VolumeFault) → ((es : List CellExtent) → found ≡ Ok es → AreFit (lead ++ es))

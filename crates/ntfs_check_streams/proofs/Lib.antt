@@ -1,5 +1,3 @@
-mod RecordLemmas
-mod SearchLemmas
 mod NamedLemmas
 mod JoinLemmas
 mod FitLemmas

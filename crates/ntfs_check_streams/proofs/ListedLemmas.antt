@@ -4,7 +4,8 @@ use Rattle.std.specs.Prelude.{not}
 use Rattle.std.specs.List.{list_any}
 use Rattle.ntfs_base.specs.Bytes.{fill_cluster}
 use Rattle.ntfs_check_streams.proofs.SaidLemmas.{lists-file}
-use Rattle.ntfs_check_streams.specs.Asked.{KeepsEleven, celled, cells_of, lists_in, records_of}
+use Rattle.ntfs_check_records.specs.Reading.{records_of}
+use Rattle.ntfs_check_streams.specs.Asked.{KeepsEleven, celled, clusters_read, lists_in}
 use Rattle.ntfs_record.proofs.SlotLemmas.{first_not-map}
 use Rattle.ntfs_record.specs.FileRecord.{Attribute, FileRecord, Head, Laid}
 use Rattle.ntfs_record.specs.Slots.{Slot, first_not, map_slot, map_slots, on_payload}
@@ -95,9 +96,9 @@ c11-mapped {P = P} {Q = Q} g listings slots =
     (λ r (s : Slot Q). not s.is_live || of_base s (is_listed (listings r) (map_slots (on_payload g) 0 slots) r s.head.sequence)) 0 slots
     (λ r s. ap (λ b. not s.is_live || (not (s.head.base == 0) || b)) (listed-mapped g (listings r) r s.head.sequence slots))
 
-c11-cells : (o : Opened) (f : ℕ → List ℕ) → c11 (lists_in o f) (volume_data o f).slots ≡ c11 (lists_in o f) (cells_of o f)
+c11-cells : (o : Opened) (f : ℕ → List ℕ) → c11 (lists_in o f) (volume_data o f).slots ≡ c11 (lists_in o f) (clusters_read o f)
 unfolding volume_data
-c11-cells o f = c11-mapped (in_located (λ place. place) (fill_cluster f)) (lists_in o f) (cells_of o f)
+c11-cells o f = c11-mapped (in_located (λ place. place) (fill_cluster f)) (lists_in o f) (clusters_read o f)
 
 listed-by : {P : Type 0} (listing : RecordListing) (slots : List (Slot P)) (r sequence : ℕ) (b : Bool) → listing.is_there ≡ b → is_listed listing slots r sequence ≡ true
     → (if b then listing.is_good && are_listed listing.entries (members_from r sequence 0 slots) else is_no_base slots r sequence) ≡ true
@@ -106,23 +107,23 @@ listed-by listing slots r sequence b there is =
     sym (ap (λ c. if c then listing.is_good && are_listed listing.entries (members_from r sequence 0 slots) else is_no_base slots r sequence) there) ∙ is
 
 abbrev listed_in : Opened → (ℕ → List ℕ) → ℕ → Slot (Located (Laid (Cells ℕ))) → Bool
-listed_in o f n s = is_listed (lists_in o f n) (cells_of o f) n s.head.sequence
+listed_in o f n s = is_listed (lists_in o f n) (clusters_read o f) n s.head.sequence
 
-base-listed : (o : Opened) (f : ℕ → List ℕ) (r : ℕ) (s : Slot (Located (Laid (Cells ℕ)))) → c11 (lists_in o f) (cells_of o f) ≡ None → slot_at (cells_of o f) r ≡ s → s.is_live ≡ true → (s.head.base == 0) ≡ true
-    → is_listed (lists_in o f r) (cells_of o f) r s.head.sequence ≡ true
+base-listed : (o : Opened) (f : ℕ → List ℕ) (r : ℕ) (s : Slot (Located (Laid (Cells ℕ)))) → c11 (lists_in o f) (clusters_read o f) ≡ None → slot_at (clusters_read o f) r ≡ s → s.is_live ≡ true → (s.head.base == 0) ≡ true
+    → is_listed (lists_in o f r) (clusters_read o f) r s.head.sequence ≡ true
 unfolding c11
 base-listed o f r s none is live base =
     let here : 0 + r ≡ r = omega arith in
     base-tested s.is_live (s.head.base == 0) (listed_in o f r s) live base
     (sym (ap (λ n. not s.is_live || of_base s (listed_in o f n s)) here)
     ∙ sym (ap (λ (t : Slot (Located (Laid (Cells ℕ)))). not t.is_live || of_base t (listed_in o f (0 + r) t)) is)
-    ∙ passed-at (λ n (t : Slot (Located (Laid (Cells ℕ)))). not t.is_live || of_base t (listed_in o f n t)) 0 r (cells_of o f) none (ap (λ (t : Slot (Located (Laid (Cells ℕ)))). t.is_live) is ∙ live))
+    ∙ passed-at (λ n (t : Slot (Located (Laid (Cells ℕ)))). not t.is_live || of_base t (listed_in o f n t)) 0 r (clusters_read o f) none (ap (λ (t : Slot (Located (Laid (Cells ℕ)))). t.is_live) is ∙ live))
 
 pub listed-at : (o : Opened) (f : ℕ → List ℕ) (r : ℕ) (file : FileRecord) → KeepsEleven (volume_data o f) → slot_at (records_of o f) r ≡ sound_located file
-    → slot_at (cells_of o f) r ≡ celled o.geometry.clusters (sound_located file) → (file.head.base == 0) ≡ true → (b : Bool) → (file_lists o.geometry f file).is_there ≡ b
-    → (if b then (file_lists o.geometry f file).is_good && are_listed (file_lists o.geometry f file).entries (members_from r file.head.sequence 0 (cells_of o f)) else is_no_base (cells_of o f) r file.head.sequence) ≡ true
+    → slot_at (clusters_read o f) r ≡ celled o.geometry.clusters (sound_located file) → (file.head.base == 0) ≡ true → (b : Bool) → (file_lists o.geometry f file).is_there ≡ b
+    → (if b then (file_lists o.geometry f file).is_good && are_listed (file_lists o.geometry f file).entries (members_from r file.head.sequence 0 (clusters_read o f)) else is_no_base (clusters_read o f) r file.head.sequence) ≡ true
 listed-at o f r file keeps is with_is base b there =
-    let none : c11 (lists_in o f) (cells_of o f) ≡ None = sym (c11-cells o f) ∙ sym (ap (λ (lists : Lists). c11 lists (volume_data o f).slots) (listings-are o f)) ∙ keeps.listed in
-    listed-by (file_lists o.geometry f file) (cells_of o f) r file.head.sequence b there
-    (ap (λ (l : RecordListing). is_listed l (cells_of o f) r file.head.sequence) (sym (lists-file o.geometry f (records_of o f) r file is))
+    let none : c11 (lists_in o f) (clusters_read o f) ≡ None = sym (c11-cells o f) ∙ sym (ap (λ (lists : Lists). c11 lists (volume_data o f).slots) (listings-are o f)) ∙ keeps.listed in
+    listed-by (file_lists o.geometry f file) (clusters_read o f) r file.head.sequence b there
+    (ap (λ (l : RecordListing). is_listed l (clusters_read o f) r file.head.sequence) (sym (lists-file o.geometry f (records_of o f) r file is))
     ∙ base-listed o f r (celled o.geometry.clusters (sound_located file)) none with_is refl base)

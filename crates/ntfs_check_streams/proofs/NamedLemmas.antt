@@ -1,5 +1,7 @@
 -- What the attribute that an entry of a list names tells, and entries one after the other.
 use Rattle.std.proofs.Common.{◌≡◌, ◌&&◌, ℕ, Bool, true, false, List, [], ◌∷◌, map, Option, Some, None, Result, Ok, Err, refl, sym, ap, ◌∙◌, if◌then◌else◌}
+use Rattle.ntfs_check_records.proofs.EntryLemmas.{good-all}
+use Rattle.ntfs_check_records.specs.Entries.{good_entries}
 use Rattle.std.specs.Prelude.{filter, find, is_ok}
 use Rattle.std.specs.Option.{ok_or, option_map}
 use Rattle.std.specs.Result.{result_map_both}
@@ -7,9 +9,9 @@ use Rattle.ntfs_attrlist.specs.Entry.{Listed}
 use Rattle.ntfs_attrlist.specs.Reading.{all_or_first, list_entries, list_items}
 use Rattle.ntfs_attrlist.specs.declared.fault.BadEntry.{BadEntry}
 use Rattle.ntfs_base.specs.Frames.{◌>>=◌}
-use Rattle.ntfs_check_streams.specs.Join.{are_joined, is_stream, join, join_all, join_lead, span_found, span_of, span_shown, spans_of}
-use Rattle.ntfs_check_streams.specs.Reading.{IsView, is_readable}
-use Rattle.ntfs_check_streams.specs.Said.{all_listed, are_listed, good_entries, good_listed}
+use Rattle.ntfs_check_streams.specs.Join.{are_joined, is_stream, join, join_all, join_lead, span_found, face_span, span_shown, spans_of}
+use Rattle.ntfs_check_records.specs.Reading.{IsView, is_readable}
+use Rattle.ntfs_check_streams.specs.Said.{all_listed, is_listed_stream, good_listed}
 use Rattle.ntfs_check_streams.specs.declared.join.Joined.{Joined}
 use Rattle.ntfs_check_streams.specs.declared.join.Span.{Span}
 use Rattle.ntfs_record.specs.FileRecord.{Attribute, FileRecord, Head, Laid}
@@ -78,23 +80,9 @@ found-read r sequence entry s file found is same = same ∙ sym (ap (λ (s : Rec
 unfoldable pub items_joined : ℕ → ℕ → List ℕ → Joined → ℕ → ℕ → List Record → List (Result Listed BadEntry) → Bool
 items_joined c kind name before r sequence slots items = are_joined c kind before (all_found r sequence slots (filter (lists kind name) (good_entries items)))
 
-right-first : (entry : Listed) (right : List Listed) (rest : Result (List Listed) BadEntry) (entries : List Listed) → ((others : List Listed) → rest ≡ Ok others → right ≡ others)
-    → result_map_both (λ xs. entry ∷ xs) (λ (e : BadEntry). e) rest ≡ Ok entries → entry ∷ right ≡ entries
-right-first entry right (Ok others) entries more is =
-    let same : ◌≡◌ {A = Result (List Listed) BadEntry} (Ok (entry ∷ others)) (Ok entries) = is in
-    let whole : entry ∷ others ≡ entries = cc in
-    ap (λ xs. entry ∷ xs) (more others refl) ∙ whole
-right-first entry right (Err fault) entries more is = let same : ◌≡◌ {A = Result (List Listed) BadEntry} (Err fault) (Ok entries) = is in absurd cc
-
-right-all : (items : List (Result Listed BadEntry)) (entries : List Listed) → all_or_first items ≡ Ok entries → good_entries items ≡ entries
-unfolding good_entries
-right-all [] entries is = let here : ◌≡◌ {A = Result (List Listed) BadEntry} (Ok []) (Ok entries) = is in cc
-right-all (Ok entry ∷ items) entries is = right-first entry (good_entries items) (all_or_first items) entries (right-all items) is
-right-all (Err fault ∷ items) entries is = let here : ◌≡◌ {A = Result (List Listed) BadEntry} (Err fault) (Ok entries) = is in absurd cc
-
 good-step : (c r sequence : ℕ) (slots : List Record) (lead : Option Shown) (shown : List Shown) (items : List (Result Listed BadEntry)) (entries : Result (List Listed) BadEntry) → all_or_first items ≡ entries → is_ok entries ≡ true
     → good_listed c r sequence slots (listing_of_entries entries) lead shown ≡ all_listed c r sequence slots (good_entries items) lead shown
-good-step c r sequence slots lead shown items (Ok entries) is good = ap (λ (es : List Listed). all_listed c r sequence slots es lead shown) (sym (right-all items entries is))
+good-step c r sequence slots lead shown items (Ok entries) is good = ap (λ (es : List Listed). all_listed c r sequence slots es lead shown) (sym (good-all items entries is))
 good-step c r sequence slots lead shown items (Err fault) is good = absurd cc
 
 -- all items are entries
@@ -147,7 +135,7 @@ module _ (c kind : ℕ) (name : List ℕ) (before : Joined) (r sequence : ℕ) (
   given-step : (found : Result (Extent (Located (Laid (List ℕ)))) VolumeFault) (others : Result (List (Extent (Located (Laid (List ℕ))))) VolumeFault) (span : Span) → Some span ≡ span_found found
       → rest_by found others ≡ are_joined c kind (join kind before span) others
   unfolding join_all
-  given-step (Ok e) (Ok extents) span some = let same : span ≡ span_of e.attribute.face = cc in
+  given-step (Ok e) (Ok extents) span some = let same : span ≡ face_span e.attribute.face = cc in
       ap (λ (s : Span). is_stream c (join_all kind (join kind before s) (spans_of extents))) (sym same)
   given-step (Ok e) (Err fault) span some = refl
   given-step (Err fault) others span some = absurd cc
@@ -192,6 +180,6 @@ span-read r sequence entry slots number view said found same some is given =
     found-read r sequence entry (slot_at slots (target entry.reference)) said found (ap (slot_at slots) (sym same) ∙ view-some (slot_at slots number) view said some is) given
 
 pub listed-are : (c r sequence : ℕ) (slots : List Record) (entries : List Listed) (lead : Option Shown) (kind : ℕ) (name : List ℕ)
-    → are_joined c kind (join_lead kind name lead) (all_found r sequence slots (filter (lists kind name) entries)) ≡ are_listed c r sequence slots entries lead kind name
-unfolding are_listed
+    → are_joined c kind (join_lead kind name lead) (all_found r sequence slots (filter (lists kind name) entries)) ≡ is_listed_stream c r sequence slots entries lead kind name
+unfolding is_listed_stream
 listed-are c r sequence slots entries lead kind name = refl

@@ -3,7 +3,9 @@ use Rattle.std.proofs.Common.{◌≡◌, ◌||◌, ℕ, List, Option, None, Resu
 use Rattle.std.specs.Prelude.{not}
 use Rattle.ntfs_base.specs.Frames.{Gives}
 use Rattle.ntfs_base.specs.declared.refusal.Rule.TheVariants as rule
-use Rattle.ntfs_check_streams.specs.Asked.{KeepsEleven, cells_of, first_refused, keeps_rule, lists_in, passes_asked, records_of}
+use Rattle.ntfs_check_records.specs.Asked.{first_refused, passes_asked}
+use Rattle.ntfs_check_records.specs.Reading.{records_of}
+use Rattle.ntfs_check_streams.specs.Asked.{KeepsEleven, clusters_read, keeps_rule, lists_in, stream_answer}
 use Rattle.ntfs_record.proofs.SlotLemmas.{first_not-map}
 use Rattle.ntfs_record.specs.FileRecord.{Laid}
 use Rattle.ntfs_record.specs.Slots.{Slot, map_laid, on_payload}
@@ -18,13 +20,13 @@ use Rattle.ntfs_volume.specs.Gather.{Lists}
 use Rattle.ntfs_volume.specs.Located.{Located, map_located, with_cells}
 use Rattle.ntfs_volume.specs.Opened.{Opened}
 
-cells-asked : (o : Opened) (f : ℕ → List ℕ) → first_refused o f ≡ c12 o.geometry.cluster (lists_in o f) (cells_of o f)
+cells-asked : (o : Opened) (f : ℕ → List ℕ) → first_refused (stream_answer o f) o f ≡ c12 o.geometry.cluster (lists_in o f) (clusters_read o f)
 unfolding c12 keeps_rule with_cells
 cells-asked o f =
-    sym (first_not-map (on_payload (map_located (map_laid (cells_below o.geometry.clusters)))) (passes_asked o f)
+    sym (first_not-map (on_payload (map_located (map_laid (cells_below o.geometry.clusters)))) (passes_asked (stream_answer o f))
     (λ r (s : Slot (Located (Laid (Cells ℕ)))). not s.is_live || keeps_rule o f r s) 0 (records_of o f) (λ r s. refl))
 
-c12-is : (o : Opened) (f : ℕ → List ℕ) → c12 (volume_data o f).geometry.cluster (listings (volume_data o f)) (numbers (volume_data o f)) ≡ c12 o.geometry.cluster (lists_in o f) (cells_of o f)
+c12-is : (o : Opened) (f : ℕ → List ℕ) → c12 (volume_data o f).geometry.cluster (listings (volume_data o f)) (numbers (volume_data o f)) ≡ c12 o.geometry.cluster (lists_in o f) (clusters_read o f)
 unfolding volume_data
 c12-is o f =
     ap (λ (lists : Lists). c12 o.geometry.cluster lists (numbers (volume_data o f))) (listings-are o f)
@@ -33,6 +35,6 @@ c12-is o f =
 pub presumed : (v : VolumeData) → c4 v.slots ≡ None → c7 (numbers v) ≡ None → c11 (listings v) v.slots ≡ None → KeepsEleven v
 presumed v whole cells listed = record { whole = whole; cells = cells; listed = listed }
 
-pub streams-given : (o : Opened) (f : ℕ → List ℕ) (result : Result (Unit {0}) CheckFault) → Gives check_origin (λ done. done) (unless_number rule.C12 (first_refused o f) tt) result
+pub streams-given : (o : Opened) (f : ℕ → List ℕ) (result : Result (Unit {0}) CheckFault) → Gives check_origin (λ done. done) (unless_number rule.C12 (first_refused (stream_answer o f) o f) tt) result
     → Gives check_origin (λ done. done) (unless_number rule.C12 (c12 (volume_data o f).geometry.cluster (listings (volume_data o f)) (numbers (volume_data o f))) tt) result
 streams-given o f result = subst (λ (found : Option ℕ). Gives check_origin (λ done. done) (unless_number rule.C12 found tt) result) (cells-asked o f ∙ sym (c12-is o f))

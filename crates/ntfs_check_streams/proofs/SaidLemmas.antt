@@ -5,9 +5,10 @@ use Rattle.std.specs.Result.{result_map_both}
 use Rattle.ntfs_boot.specs.declared.geometry.Geometry.{Geometry}
 use Rattle.ntfs_check_streams.proofs.FitLemmas.{all-fit}
 use Rattle.ntfs_check_streams.proofs.JoinLemmas.{CellExtent, found-joined}
-use Rattle.ntfs_check_streams.specs.Asked.{KeepsEleven, celled, cells_of, lists_in, records_of}
-use Rattle.ntfs_check_streams.specs.Join.{are_joined, is_stream, join, join_all, join_lead, join_shown, span_of, spans_of}
-use Rattle.ntfs_check_streams.specs.Said.{are_listed, lead_in, shown_in}
+use Rattle.ntfs_check_records.specs.Reading.{records_of}
+use Rattle.ntfs_check_streams.specs.Asked.{KeepsEleven, celled, clusters_read, lists_in}
+use Rattle.ntfs_check_streams.specs.Join.{are_joined, is_stream, join, join_all, join_lead, join_shown, face_span, spans_of}
+use Rattle.ntfs_check_streams.specs.Said.{is_listed_stream, lead_in, shown_in}
 use Rattle.ntfs_check_streams.specs.declared.join.Joined.{Joined}
 use Rattle.ntfs_check_streams.specs.declared.join.Joined.TheVariants as joined
 use Rattle.ntfs_record.specs.Attribute.{attribute_of}
@@ -50,7 +51,7 @@ lists-file g f slots r file is =
 abbrev pub celled_attributes : ℕ → Head → List Placed → List (Attribute (Located (Laid (Cells ℕ))))
 celled_attributes n h ps = map (on_payload (map_located (map_laid (cells_below n))) 0 h) (map located_of ps)
 
-lead-if : (c kind : ℕ) (b : Bool) (e : CellExtent) → join_all kind joined.Nothing (spans_of (if b then e ∷ [] else [])) ≡ (if b then join kind joined.Nothing (span_of e.attribute.face) else joined.Nothing)
+lead-if : (c kind : ℕ) (b : Bool) (e : CellExtent) → join_all kind joined.Nothing (spans_of (if b then e ∷ [] else [])) ≡ (if b then join kind joined.Nothing (face_span e.attribute.face) else joined.Nothing)
 unfolding join_all
 lead-if c kind true e = refl
 lead-if c kind false e = refl
@@ -84,7 +85,7 @@ lead-joined n r kind name file = lead-same n r kind name (celled n (sound_locate
 
 spans-mapped : (n : ℕ) (es : List (Extent (Located (Laid (List ℕ))))) → spans_of (map (mapped (on_payload (map_located (map_laid (cells_below n))))) es) ≡ spans_of es
 spans-mapped n [] = refl
-spans-mapped n (e ∷ es) = ap (λ ss. span_of e.attribute.face ∷ ss) (spans-mapped n es)
+spans-mapped n (e ∷ es) = ap (λ ss. face_span e.attribute.face ∷ ss) (spans-mapped n es)
 
 joined-mapped : (n c kind : ℕ) (before : Joined) (found : Result (List (Extent (Located (Laid (List ℕ))))) VolumeFault)
     → are_joined c kind before (result_map_both (map (mapped (on_payload (map_located (map_laid (cells_below n)))))) (λ fault. fault) found) ≡ are_joined c kind before found
@@ -110,15 +111,15 @@ abbrev pub are_said : ℕ → ℕ → FileRecord → RecordListing → List Reco
 are_said c r file listing slots kind name = are_joined c kind (join_lead kind name (lead_in file)) (extents_in r kind name listing (sound_located file) slots)
 
 pub stream-said : (o : Opened) (f : ℕ → List ℕ) (r : ℕ) (file : FileRecord) (id : Id) → KeepsEleven (volume_data o f) → slot_at (records_of o f) r ≡ sound_located file
-    → slot_at (cells_of o f) r ≡ celled o.geometry.clusters (sound_located file) → (file.head.base == 0) ≡ true
-    → is_in_stream o.geometry.cluster (lists_in o f) (cells_of o f) r (celled o.geometry.clusters (sound_located file)) id
+    → slot_at (clusters_read o f) r ≡ celled o.geometry.clusters (sound_located file) → (file.head.base == 0) ≡ true
+    → is_in_stream o.geometry.cluster (lists_in o f) (clusters_read o f) r (celled o.geometry.clusters (sound_located file)) id
     ≡ are_said o.geometry.cluster r file (file_lists o.geometry f file) (records_of o f) id.kind id.name
 unfolding is_in_stream
 stream-said o f r file id keeps is with_is base =
     let c = o.geometry.cluster in
     let s = celled o.geometry.clusters (sound_located file) in
-    found-joined c id.kind (list_extents r id.kind id.name s) (extents (lists_in o f) (cells_of o f) r id.kind id.name) (all-fit o f r id.kind id.name s keeps with_is)
-    ∙ ap (λ (before : Joined). are_joined c id.kind before (extents (lists_in o f) (cells_of o f) r id.kind id.name)) (lead-joined o.geometry.clusters r id.kind id.name file)
+    found-joined c id.kind (list_extents r id.kind id.name s) (extents (lists_in o f) (clusters_read o f) r id.kind id.name) (all-fit o f r id.kind id.name s keeps with_is)
+    ∙ ap (λ (before : Joined). are_joined c id.kind before (extents (lists_in o f) (clusters_read o f) r id.kind id.name)) (lead-joined o.geometry.clusters r id.kind id.name file)
     ∙ cells-joined o.geometry.clusters c r id.kind id.name (join_lead id.kind id.name (lead_in file)) (lists_in o f) (records_of o f)
     ∙ ap (are_joined c id.kind (join_lead id.kind id.name (lead_in file))) (base-extents (lists_in o f) (records_of o f) r id.kind id.name file is base)
     ∙ ap (λ listing. are_joined c id.kind (join_lead id.kind id.name (lead_in file)) (extents_in r id.kind id.name listing (sound_located file) (records_of o f))) (lists-file o.geometry f (records_of o f) r file is)
@@ -126,23 +127,23 @@ stream-said o f r file id keeps is with_is base =
 -- ---- with a list, and without one
 
 pub said-listed : (c r : ℕ) (file : FileRecord) (listing : RecordListing) (slots : List Record) (kind : ℕ) (name : List ℕ) → listing.is_there ≡ true → listing.is_good ≡ true
-    → are_said c r file listing slots kind name ≡ are_listed c r file.head.sequence slots listing.entries (lead_in file) kind name
-unfolding extents_in listed_extents are_listed
+    → are_said c r file listing slots kind name ≡ is_listed_stream c r file.head.sequence slots listing.entries (lead_in file) kind name
+unfolding extents_in listed_extents is_listed_stream
 said-listed c r file listing slots kind name there good = rw (there, good) refl
 
 own-same : (c kind : ℕ) (name : List ℕ) (r : ℕ) (h : Head) (before : Joined) (ps : List Placed)
     → join_all kind before (spans_of (map (extent_at r h) (filter (λ (a : Attribute (Located (Laid (List ℕ)))). is_of kind name (id_of a.face)) (map located_of ps)))) ≡ join_shown kind name before (map shown_placed ps)
 unfolding join_all join_shown
 own-same c kind name r h before [] = refl
-own-same c kind name r h before (p ∷ ps) = step (is_of kind name (shown_id (shown_placed p))) (own-same c kind name r h (join kind before (span_of (located_of p).face)) ps) (own-same c kind name r h before ps)
+own-same c kind name r h before (p ∷ ps) = step (is_of kind name (shown_id (shown_placed p))) (own-same c kind name r h (join kind before (face_span (located_of p).face)) ps) (own-same c kind name r h before ps)
   where
     rest : List (Attribute (Located (Laid (List ℕ))))
     rest = filter (λ (a : Attribute (Located (Laid (List ℕ)))). is_of kind name (id_of a.face)) (map located_of ps)
 
-    step : (b : Bool) → join_all kind (join kind before (span_of (located_of p).face)) (spans_of (map (extent_at r h) rest)) ≡ join_shown kind name (join kind before (span_of (located_of p).face)) (map shown_placed ps)
+    step : (b : Bool) → join_all kind (join kind before (face_span (located_of p).face)) (spans_of (map (extent_at r h) rest)) ≡ join_shown kind name (join kind before (face_span (located_of p).face)) (map shown_placed ps)
         → join_all kind before (spans_of (map (extent_at r h) rest)) ≡ join_shown kind name before (map shown_placed ps)
         → join_all kind before (spans_of (map (extent_at r h) (if b then located_of p ∷ rest else rest)))
-        ≡ join_shown kind name (if b then join kind before (span_of (located_of p).face) else before) (map shown_placed ps)
+        ≡ join_shown kind name (if b then join kind before (face_span (located_of p).face) else before) (map shown_placed ps)
     step true more same = more
     step false more same = same
 

@@ -11,7 +11,6 @@ use Rattle.ntfs_attrlist.specs.declared.entry.ListEntry.{ListEntry}
 use Rattle.ntfs_attrlist.specs.declared.fault.BadEntry.{BadEntry}
 use Rattle.ntfs_check_streams.specs.Join.{join, join_shown, span_shown}
 use Rattle.ntfs_check_streams.specs.Last.{like_last}
-use Rattle.ntfs_check_streams.specs.Said.{good_entries}
 use Rattle.ntfs_check_streams.specs.declared.join.Joined.{Joined}
 use Rattle.ntfs_record.specs.Views.{Shown}
 use Rattle.ntfs_rules.specs.declared.fault.CheckFault.{CheckFault}
@@ -30,18 +29,6 @@ module _ {A : Type 0} (test : A → Bool) (xs : List A) (answer : Bool) (same : 
   all-end none = sym (ap (list_all test) none) ∙ same
 
 -- ---- entries
-
-pub entry-first : (items rest : List (Result Listed BadEntry)) (entry : Listed) → items ≡ Ok entry ∷ rest → good_entries items ≡ entry ∷ good_entries rest
-unfolding good_entries
-entry-first items rest entry is = ap good_entries is
-
-pub entry-fault : (items rest : List (Result Listed BadEntry)) (fault : BadEntry) → items ≡ Err fault ∷ rest → good_entries items ≡ good_entries rest
-unfolding good_entries
-entry-fault items rest fault is = ap good_entries is
-
-pub entry-end : (items : List (Result Listed BadEntry)) → items ≡ [] → good_entries items ≡ []
-unfolding good_entries
-entry-end items is = ap good_entries is
 
 -- an entry of the type and name of the one before has its answer
 pub like-holds : (of : ℕ → List ℕ → Bool) (last : Option ListEntry) (entry : Listed) (like : Bool) → like ≡ like_last last entry → like ≡ true → IfSome last (λ other. of other.kind other.name.now ≡ true) → true ≡ of entry.kind entry.name

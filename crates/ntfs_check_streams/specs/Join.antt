@@ -11,8 +11,8 @@ use Rattle.ntfs_volume.specs.StreamBytes.{have_room}
 use Rattle.ntfs_volume.specs.declared.fault.VolumeFault.{VolumeFault}
 
 -- what an attribute tells of its part of a stream
-abbrev pub span_of : Face → Span
-span_of face = record {
+abbrev pub face_span : Face → Span
+face_span face = record {
   is_resident = face.is_resident;
   lowest = face.lowest;
   next = face.next;
@@ -70,7 +70,7 @@ join_lead kind name (Some s) =
 
 -- the parts of extents
 abbrev pub spans_of : {P : Type 0} → List (Extent P) → List Span
-spans_of es = map (λ (e : Extent _). span_of e.attribute.face) es
+spans_of es = map (λ (e : Extent _). face_span e.attribute.face) es
 
 -- those so far and the extents are a stream; they aren't where the extents can't be found
 abbrev pub are_joined : {P : Type 0} → ℕ → ℕ → Joined → Result (List (Extent P)) VolumeFault → Bool
@@ -79,5 +79,5 @@ are_joined c kind before (Err fault) = false
 
 -- what an extent tells, where it is found
 abbrev pub span_found : {P : Type 0} → Result (Extent P) VolumeFault → Option Span
-span_found (Ok e) = Some (span_of e.attribute.face)
+span_found (Ok e) = Some (face_span e.attribute.face)
 span_found (Err fault) = None

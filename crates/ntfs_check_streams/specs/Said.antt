@@ -14,12 +14,6 @@ use Rattle.ntfs_volume.specs.Located.{Located}
 use Rattle.ntfs_volume.specs.Views.{is_wanted, told}
 use Rattle.ntfs_volume.specs.declared.wanted.Wanted.TheVariants as wanted
 
--- the entries that are right
-unfoldable pub good_entries : List (Result Listed BadEntry) → List Listed
-good_entries [] = []
-good_entries (Ok entry ∷ items) = entry ∷ good_entries items
-good_entries (Err fault ∷ items) = good_entries items
-
 -- the first list among a record's attributes
 abbrev pub lead_in : FileRecord → Option Shown
 lead_in file = find (is_wanted wanted.List) (map told (attributes_of file))
@@ -33,17 +27,17 @@ abbrev pub are_own : ℕ → List Shown → Shown → Bool
 are_own c shown s = is_stream c (join_shown s.kind s.name joined.Nothing shown)
 
 -- with one: it, where it has this type and name, and the attributes that its entries name are a stream
-unfoldable pub are_listed : ℕ → ℕ → ℕ → List (Slot (Located (Laid (List ℕ)))) → List Listed → Option Shown → ℕ
+unfoldable pub is_listed_stream : ℕ → ℕ → ℕ → List (Slot (Located (Laid (List ℕ)))) → List Listed → Option Shown → ℕ
     → List ℕ → Bool
-are_listed c r sequence slots entries lead kind name =
+is_listed_stream c r sequence slots entries lead kind name =
     are_joined c kind (join_lead kind name lead) (all_found r sequence slots (filter (lists kind name) entries))
 
 -- so are all that a list and the record that has it name
 abbrev pub all_listed : ℕ → ℕ → ℕ → List (Slot (Located (Laid (List ℕ)))) → List Listed → Option Shown → List Shown
     → Bool
 all_listed c r sequence slots entries lead shown =
-    list_all (λ (s : Shown). are_listed c r sequence slots entries lead s.kind s.name) shown
-    && list_all (λ (entry : Listed). are_listed c r sequence slots entries lead entry.kind entry.name) entries
+    list_all (λ (s : Shown). is_listed_stream c r sequence slots entries lead s.kind s.name) shown
+    && list_all (λ (entry : Listed). is_listed_stream c r sequence slots entries lead entry.kind entry.name) entries
 
 -- by what a record says of its list
 abbrev pub good_listed : ℕ → ℕ → ℕ → List (Slot (Located (Laid (List ℕ)))) → RecordListing → Option Shown → List Shown

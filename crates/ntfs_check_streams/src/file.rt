@@ -4,7 +4,7 @@ ghost use Rattle.std.specs.Prelude.{◌≡◌, ◌==◌, ◌||◌, not, IfErr, I
 ghost use Rattle.std.specs.List.{list_all};
 ghost use Rattle.ntfs_base.specs.Bytes.{cluster_at};
 ghost use Rattle.ntfs_base.specs.Frames.{IfTold, IsSettled, OnlyReads};
-ghost use Rattle.ntfs_check_streams.specs.Asked.{records_of};
+ghost use Rattle.ntfs_check_records.specs.Reading.{records_of};
 ghost use Rattle.ntfs_check_streams.specs.Join.{join_shown};
 ghost use Rattle.ntfs_check_streams.specs.Said as spec;
 ghost use Rattle.ntfs_check_streams.specs.declared.join.Joined.TheVariants as joined;

@@ -6,9 +6,7 @@ mod file;
 mod join;
 mod list;
 mod named;
-mod records;
 mod rules;
-mod search;
 
 pub use rules::check_streams;
 

@@ -1,16 +1,17 @@
 //! The streams of a base record with an attribute list.
 
 ghost use Rattle.std.specs.Prelude.{◌≡◌, Some, filter, true, ℕ, List, IfErr, IfOk, IfSome};
+ghost use Rattle.ntfs_check_records.specs.Entries.{good_entries};
 ghost use Rattle.std.specs.List.{list_all};
 ghost use Rattle.ntfs_attrlist.specs.Entry.{Listed};
 ghost use Rattle.ntfs_attrlist.specs.Reading.{list_items};
 ghost use Rattle.ntfs_attrlist.specs.Views.{shown_entry};
 ghost use Rattle.ntfs_base.specs.Bytes.{cluster_at};
 ghost use Rattle.ntfs_base.specs.Frames.{IfTold, IsSettled, OnlyReads};
-ghost use Rattle.ntfs_check_streams.specs.Asked.{records_of};
+ghost use Rattle.ntfs_check_records.specs.Reading.{records_of};
 ghost use Rattle.ntfs_check_streams.specs.Join as spec;
 ghost use Rattle.ntfs_check_streams.specs.Last.{like_last};
-ghost use Rattle.ntfs_check_streams.specs.Said.{are_listed, good_entries, good_listed, shown_in};
+ghost use Rattle.ntfs_check_streams.specs.Said.{is_listed_stream, good_listed, shown_in};
 ghost use Rattle.ntfs_record.specs.FileRecord.{Attribute, Laid};
 ghost use Rattle.ntfs_record.specs.Views.{Shown};
 ghost use Rattle.ntfs_rules.specs.Outcome.{check_origin};
@@ -87,7 +88,7 @@ fn are_listed<G: Image>(
 ) -> Result<bool, CheckFault>
     requires held { HasClusters (G.seen image.old).size table.now }
     ensures found { IfTold G.Image image.old (λ content. IfOk result (λ is. is
-        ≡ are_listed table.now.geometry.cluster base.number base.sequence
+        ≡ is_listed_stream table.now.geometry.cluster base.number base.sequence
         (records_of table.now (cluster_at content table.now.geometry.cluster))
         (good_entries (list_items list.now)) (Some (told_view lead.now)) kind name.now)) }
     ensures cut { IfErr result (λ fault. IsSettled (check_origin fault) → ⊥) }
@@ -109,7 +110,7 @@ fn own_listed<G: Image>(
 ) -> Result<bool, CheckFault>
     requires held { HasClusters (G.seen image.old).size table.now }
     ensures found { IfTold G.Image image.old (λ content. IfOk result (λ is. is
-        ≡ list_all (λ (s : Shown). are_listed table.now.geometry.cluster base.number base.sequence
+        ≡ list_all (λ (s : Shown). is_listed_stream table.now.geometry.cluster base.number base.sequence
         (records_of table.now (cluster_at content table.now.geometry.cluster))
         (good_entries (list_items list.now)) (Some (told_view lead.now)) s.kind s.name) (shown_in view.now))) }
     ensures cut { IfErr result (λ fault. IsSettled (check_origin fault) → ⊥) }
@@ -156,10 +157,10 @@ fn entry_listed<G: Image>(
 ) -> Result<bool, CheckFault>
     requires held { HasClusters (G.seen image.old).size table.now }
     ensures found { IfTold G.Image image.old (λ content.
-        IfSome last.entry (λ other. are_listed table.now.geometry.cluster base.number base.sequence
+        IfSome last.entry (λ other. is_listed_stream table.now.geometry.cluster base.number base.sequence
         (records_of table.now (cluster_at content table.now.geometry.cluster))
         (good_entries (list_items list.now)) (Some (told_view lead.now)) other.kind other.name.now ≡ true)
-        → IfOk result (λ is. is ≡ are_listed table.now.geometry.cluster base.number base.sequence
+        → IfOk result (λ is. is ≡ is_listed_stream table.now.geometry.cluster base.number base.sequence
         (records_of table.now (cluster_at content table.now.geometry.cluster))
         (good_entries (list_items list.now)) (Some (told_view lead.now)) entry.now.kind entry.now.name.now)) }
     ensures cut { IfErr result (λ fault. IsSettled (check_origin fault) → ⊥) }
@@ -184,7 +185,7 @@ fn entries_listed<G: Image>(
 ) -> Result<bool, CheckFault>
     requires held { HasClusters (G.seen image.old).size table.now }
     ensures found { IfTold G.Image image.old (λ content. IfOk result (λ is. is
-        ≡ list_all (λ (entry : Listed). are_listed table.now.geometry.cluster base.number base.sequence
+        ≡ list_all (λ (entry : Listed). is_listed_stream table.now.geometry.cluster base.number base.sequence
         (records_of table.now (cluster_at content table.now.geometry.cluster))
         (good_entries (list_items list.now)) (Some (told_view lead.now)) entry.kind entry.name)
         (good_entries (list_items list.now)))) }

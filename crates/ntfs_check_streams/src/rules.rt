@@ -4,34 +4,18 @@ ghost use Rattle.std.specs.Prelude.{◌≡◌, None};
 ghost use Rattle.ntfs_base.specs.Bytes.{cluster_at};
 ghost use Rattle.ntfs_base.specs.Frames.{Gives, IfTold, OnlyReads};
 ghost use Rattle.ntfs_base.specs.declared.refusal.Rule.TheVariants as rule;
-ghost use Rattle.ntfs_check_streams.specs.Asked.{Presumes, first_refused};
 ghost use Rattle.ntfs_rules.specs.Files.{c11, c12};
 ghost use Rattle.ntfs_rules.specs.Outcome.{check_origin, unless_number};
 ghost use Rattle.ntfs_rules.specs.Records.{c4, c7};
 ghost use Rattle.ntfs_rules.specs.VolumeData.{listings, numbers, volume_data};
 ghost use Rattle.ntfs_volume.specs.Opened.{HasClusters};
 
-use crate::search::first_failing;
+use crate::asked::Streams;
 use ntfs_base::{Image, Rule};
-use ntfs_rules::{CheckFault, damaged};
+use ntfs_check_records::ask_all;
+use ntfs_rules::CheckFault;
 use ntfs_volume::Table;
 use std::alloc::Global;
-
-/// The first record that breaks rule C12.
-fn judge_streams<G: Image>(alloc: Global, image: &mut G, table: &Table) -> Result<(), CheckFault>
-    requires held { HasClusters (G.seen image.old).size table.now }
-    ensures gives { IfTold G.Image image.old (λ content.
-        Presumes table.now (cluster_at content table.now.geometry.cluster)
-        → Gives check_origin (λ done. done) (unless_number rule.C12
-        (first_refused table.now (cluster_at content table.now.geometry.cluster)) tt) result) }
-    ensures reads { OnlyReads G.Image check_origin image.old image.new result }
-{
-    match first_failing(alloc, image, table) {
-        Err(fault) => Err(fault),
-        Ok(None) => Ok(()),
-        Ok(Some(number)) => Err(damaged(Rule::C12, number)),
-    }
-}
 
 /// Rule C12: in each base record, attributes of one type and name are one stream.
 pub fn check_streams<G: Image>(
@@ -51,5 +35,5 @@ pub fn check_streams<G: Image>(
         (numbers (volume_data table.now (cluster_at content table.now.geometry.cluster)))) tt) result) }
     ensures reads { OnlyReads G.Image check_origin image.old image.new result }
 {
-    judge_streams(alloc, image, table)
+    ask_all(alloc, image, table, &Streams, Rule::C12)
 }

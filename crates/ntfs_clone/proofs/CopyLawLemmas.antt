@@ -5,7 +5,7 @@ use Rattle.std.proofs.lemmas.Bool.Decides.{eqb_tells}
 use Rattle.std.proofs.lemmas.List.{append-nil, replicate-append-replicate, places}
 use Rattle.ntfs_base.specs.Bytes.{cluster_at}
 use Rattle.ntfs_base.specs.Growth.{resize_of}
-use Rattle.ntfs_clone.specs.CloneOf.{Volume, cluster_commands, saved_commands, saved_header, tail_of, widened}
+use Rattle.ntfs_clone.specs.CloneOf.{Volume, cluster_commands, saved_commands, saved_header, clone_tail, widened}
 use Rattle.ntfs_clone.specs.Commands.{Command, gap, cluster, commands_content, covered}
 use Rattle.ntfs_clone.specs.Copying.{IsPartCopy, nothing, front, whole, copied_cluster, copied_clusters, copied_up_to, copy_of}
 use Rattle.ntfs_clone.specs.Restored.{laid_out, restored}
@@ -40,12 +40,12 @@ copied-content v from (suc n) =
     ∙ append_assoc (copied_clusters v from) (copied_cluster v from) behind
     ∙ ap (λ xs. copied_clusters v from ++ xs) (sym (content-one v from n (v.owned from) refl))
 
-pub saved-content : (v : Volume) → commands_content v.cluster (saved_commands v) ≡ copied_clusters v v.clusters ++ tail_of v
+pub saved-content : (v : Volume) → commands_content v.cluster (saved_commands v) ≡ copied_clusters v v.clusters ++ clone_tail v
 saved-content v =
     let none : 0 + v.clusters ≡ v.clusters = omega arith in
-    ap (commands_content v.cluster) (commands-append v 0 v.clusters (tail_of v))
-    ∙ content-more v.cluster (cluster_commands v 0 v.clusters []) (cluster (tail_of v))
-    ∙ ap (λ xs. xs ++ tail_of v) (sym (ap (copied_clusters v) (sym none) ∙ copied-content v 0 v.clusters))
+    ap (commands_content v.cluster) (commands-append v 0 v.clusters (clone_tail v))
+    ∙ content-more v.cluster (cluster_commands v 0 v.clusters []) (cluster (clone_tail v))
+    ∙ ap (λ xs. xs ++ clone_tail v) (sym (ap (copied_clusters v) (sym none) ∙ copied-content v 0 v.clusters))
 
 -- ---- how many clusters they cover
 
@@ -64,7 +64,7 @@ covered-from v from (suc n) behind = two (v.owned from) (covered-from v (from + 
     two false rest = covered-widened (cluster_commands v (from + 1) n behind) ∙ omega (arith, rest)
 
 pub saved-covered : (v : Volume) → covered (saved_commands v) ≡ v.clusters + 1
-saved-covered v = covered-from v 0 v.clusters (cluster (tail_of v) ∷ [])
+saved-covered v = covered-from v 0 v.clusters (cluster (clone_tail v) ∷ [])
 
 more-eqb : (n : ℕ) → nat_eq (n + 1) n ≡ false
 more-eqb n = elim (eqb_tells (n + 1) n) [ inl same ↦ (let e = same.1 in absurd (omega (arith, e))) | inr other ↦ other.0 ]
@@ -94,9 +94,9 @@ part-byte v content i (whole is) = inr (ap (λ xs. get_or xs i 0) is)
 part-byte v content i (front k within is) =
     let sum : k + (v.clusters - k) ≡ v.clusters = omega arith in
     let rest = commands_content v.cluster (cluster_commands v k (v.clusters - k) []) in
-    let all : copied_clusters v v.clusters ++ tail_of v ≡ copied_clusters v k ++ (rest ++ tail_of v) =
-    ap (λ xs. xs ++ tail_of v) (ap (copied_clusters v) (sym sum) ∙ copied-content v k (v.clusters - k)) ∙ append_assoc (copied_clusters v k) rest (tail_of v) in
-    let byte = resized-byte v.device i (copied_clusters v k) (rest ++ tail_of v) in
+    let all : copied_clusters v v.clusters ++ clone_tail v ≡ copied_clusters v k ++ (rest ++ clone_tail v) =
+    ap (λ xs. xs ++ clone_tail v) (ap (copied_clusters v) (sym sum) ∙ copied-content v k (v.clusters - k)) ∙ append_assoc (copied_clusters v k) rest (clone_tail v) in
+    let byte = resized-byte v.device i (copied_clusters v k) (rest ++ clone_tail v) in
     elim byte [
       | inl none ↦ inl (ap (λ xs. get_or xs i 0) is ∙ none)
       | inr same ↦ inr (ap (λ xs. get_or xs i 0) is ∙ same ∙ ap (λ xs. get_or (resize_of v.device xs) i 0) (sym all))

@@ -7,7 +7,7 @@ use Rattle.ntfs_base.specs.Growth.{SetLength, resize_of}
 use Rattle.ntfs_base.specs.Image.{ImageState}
 use Rattle.ntfs_base.specs.Writes.{Write, Wrote}
 use Rattle.ntfs_base.proofs.BytesLemmas.{length-cluster_at}
-use Rattle.ntfs_clone.specs.CloneOf.{Volume, tail_of}
+use Rattle.ntfs_clone.specs.CloneOf.{Volume, clone_tail}
 use Rattle.ntfs_clone.specs.Copying.{IsCopied, IsCopiedUpTo, IsPartCopy, nothing, front, whole, copied_cluster, copied_clusters, copied_up_to, copy_of}
 use Rattle.ntfs_clone.specs.Writing.{Makes}
 use Rattle.ntfs_clone.specs.declared.fault.CloneFault.{CloneFault}
@@ -97,10 +97,10 @@ up-to-free v from end order free =
 
 -- the tail is written behind all clusters
 pub up-to-tail : (v : Volume) (content : List ℕ) → v.clusters * v.cluster ≤ length v.image → v.clusters * v.cluster ≤ v.device → content ≡ copied_up_to v v.clusters
-    → overwrite (v.clusters * v.cluster) (take (v.device - v.clusters * v.cluster) (tail_of v)) content ≡ copy_of v
+    → overwrite (v.clusters * v.cluster) (take (v.device - v.clusters * v.cluster) (clone_tail v)) content ≡ copy_of v
 unfolding copied_up_to copy_of
 up-to-tail v content held fits laid =
-    resize-behind v.device (v.clusters * v.cluster) (copied_clusters v v.clusters) (tail_of v) content (length-copied v v.clusters (omega arith) held) fits laid
+    resize-behind v.device (v.clusters * v.cluster) (copied_clusters v v.clusters) (clone_tail v) content (length-copied v v.clusters (omega arith) held) fits laid
 
 -- ---- answers
 
@@ -137,11 +137,11 @@ row-wrote v from n c device row old new result same length_is owned within held 
 
 -- the tail that was written
 pub tail-wrote : (v : Volume) (c device : ℕ) (tail : List ℕ) (old new : ImageState) (result : Result (Unit {0}) CloneFault) → c ≡ v.cluster → device ≡ v.device
-    → v.clusters * v.cluster ≤ length v.image → v.clusters * v.cluster ≤ v.device → tail ≡ tail_of v → IsTrue old.is_told → old.content ≡ copied_up_to v v.clusters
+    → v.clusters * v.cluster ≤ length v.image → v.clusters * v.cluster ≤ v.device → tail ≡ clone_tail v → IsTrue old.is_told → old.content ≡ copied_up_to v v.clusters
     → Wrote (record { place = v.clusters * c; bytes = take (device - v.clusters * c) tail } ∷ []) old result new → IsCopied v result new.content
 tail-wrote v c device tail old new result same length_is held fits is told laid wrote =
     let place : v.clusters * c ≡ v.clusters * v.cluster = ap (λ m. v.clusters * m) same in
-    let text = take (v.device - v.clusters * v.cluster) (tail_of v) in
+    let text = take (v.device - v.clusters * v.cluster) (clone_tail v) in
     let cut : device - v.clusters * c ≡ v.device - v.clusters * v.cluster = omega (arith, place, length_is) in
     let w : Write = record { place = v.clusters * c; bytes = take (device - v.clusters * c) tail } in
     tail-makes v (overwrite (v.clusters * c) text old.content) old.content new.content result laid

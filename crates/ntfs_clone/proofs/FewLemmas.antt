@@ -4,7 +4,7 @@ use Rattle.std.proofs.lemmas.Bool.{eqb-true, ltb-true}
 use Rattle.ntfs_base.specs.Frames.{must, ◌>>=◌}
 use Rattle.ntfs_clone.specs.declared.fault.CloneFault.TheVariants.{BadClone}
 use Rattle.ntfs_clone.specs.declared.header.CloneHeader.{CloneHeader}
-use Rattle.ntfs_clone.specs.Commands.{Command, gap, cluster, and_behind, are_all, clone_commands, command_length, commands_from, commands_length, covers, is_empty_gap, kept_if, may_follow, next_command, right_commands}
+use Rattle.ntfs_clone.specs.Commands.{Command, gap, cluster, and_behind, are_all, clone_commands, command_length, commands_from, commands_length, covered_count, is_empty_gap, kept_if, may_follow, next_command, right_commands}
 use Rattle.ntfs_clone.specs.Reading.{commands_left}
 
 first-of : (a b : Bool) → (a && b) ≡ true → a ≡ true
@@ -32,7 +32,7 @@ not-zero zero some = absurd cc
 not-zero (suc n) some = omega arith
 
 -- a command leaves room for fewer
-fewer-left : (room : ℕ) (after : Bool) (command : Command) → may_follow room after command ≡ true → 1 + commands_left (room - covers command) (is_empty_gap command) ≤ commands_left room after
+fewer-left : (room : ℕ) (after : Bool) (command : Command) → may_follow room after command ≡ true → 1 + commands_left (room - covered_count command) (is_empty_gap command) ≤ commands_left room after
 fewer-left room after (cluster bytes) may = let some = ltb-true 0 room may in two after
   where
     two : (b : Bool) → 1 + (2 * (room - 1) + 1) ≤ commands_left room b
@@ -63,10 +63,10 @@ few-from zero c room after bytes = omega arith
 few-from (suc most) c room after bytes = two (next_command c room after bytes) refl (λ flag r rest. few-from most c r flag rest)
   where
     two : (found : Option Command) → next_command c room after bytes ≡ found → ((flag : Bool) (r : ℕ) (rest : List ℕ) → length (commands_from most c r flag rest) ≤ commands_left r flag)
-        → length (and_behind found (λ command. commands_from most c (room - covers command) (is_empty_gap command) (drop (command_length command) bytes))) ≤ commands_left room after
+        → length (and_behind found (λ command. commands_from most c (room - covered_count command) (is_empty_gap command) (drop (command_length command) bytes))) ≤ commands_left room after
     two None is behind = omega arith
     two (Some command) is behind =
-        let rest = behind (is_empty_gap command) (room - covers command) (drop (command_length command) bytes) in
+        let rest = behind (is_empty_gap command) (room - covered_count command) (drop (command_length command) bytes) in
         let left = fewer-left room after command (next-may c room after bytes command is) in
         omega (arith, rest, left)
 

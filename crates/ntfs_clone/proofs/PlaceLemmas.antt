@@ -6,7 +6,7 @@ use Rattle.std.proofs.lemmas.List.{get_or-append_right, length-replicate, length
 use Rattle.ntfs_base.specs.Bytes.{cluster_at}
 use Rattle.ntfs_base.specs.Growth.{resize_of}
 use Rattle.ntfs_base.proofs.BytesLemmas.{take-drop-append, take-drop-take}
-use Rattle.ntfs_clone.specs.CloneOf.{Volume, tail_of}
+use Rattle.ntfs_clone.specs.CloneOf.{Volume, clone_tail}
 use Rattle.ntfs_clone.specs.Copying.{copied_cluster, copied_clusters, copy_of}
 use Rattle.ntfs_clone.proofs.CopyingLemmas.{length-copied, one-long, part-below}
 
@@ -61,10 +61,10 @@ cluster-placed v k below held fits =
     let c = v.cluster in
     let front = copied_clusters v v.clusters in
     let long = length-copied v v.clusters (omega arith) held in
-    let all = length-append front (tail_of v) in
+    let all = length-append front (clone_tail v) in
     let room = part-below k v.clusters c below in
-    piece-resized (k * c) c v.device (front ++ tail_of v) (omega (arith, room, fits)) (omega (arith, room, long, all))
-    ∙ take-drop-append (k * c) c front (tail_of v) (omega (arith, room, long)) ∙ cluster-copied v v.clusters k below (omega arith) held
+    piece-resized (k * c) c v.device (front ++ clone_tail v) (omega (arith, room, fits)) (omega (arith, room, long, all))
+    ∙ take-drop-append (k * c) c front (clone_tail v) (omega (arith, room, long)) ∙ cluster-copied v v.clusters k below (omega arith) held
 
 -- ---- the tail
 
@@ -75,6 +75,6 @@ tail-placed v i least below most held =
     let place = v.clusters * v.cluster in
     let front = copied_clusters v v.clusters in
     let long = length-copied v v.clusters (omega arith) held in
-    byte-resized v.device i (front ++ tail_of v) below ∙ get_or-append_right front (tail_of v) place i 0 long least
+    byte-resized v.device i (front ++ clone_tail v) below ∙ get_or-append_right front (clone_tail v) place i 0 long least
     ∙ byte-resized v.cluster (i - place) (take (v.device - place) (drop place v.image)) (omega (arith, least, below, most))
     ∙ grind (arith, places)

@@ -12,8 +12,8 @@ use Rattle.ntfs_base.specs.Growth.{resize_of}
 use Rattle.ntfs_base.proofs.BytesLemmas.{length-cluster_at, number_at-bytes, number_at-take}
 use Rattle.ntfs_base.proofs.GrowthLemmas.{length-resized}
 use Rattle.ntfs_clone.specs.declared.header.CloneHeader.{CloneHeader}
-use Rattle.ntfs_clone.specs.CloneOf.{IsVolume, Volume, clone_of, cluster_commands, header_bytes, owned_count, saved_commands, saved_header, tail_of, widened}
-use Rattle.ntfs_clone.specs.Commands.{AreInOrder, Command, gap, cluster, commands_bytes, is_empty_gap, may_follow, read_clone}
+use Rattle.ntfs_clone.specs.CloneOf.{IsVolume, Volume, clone_of, cluster_commands, clone_header_bytes, owned_count, saved_commands, saved_header, clone_tail, widened}
+use Rattle.ntfs_clone.specs.Commands.{AreSequenced, Command, gap, cluster, commands_bytes, is_empty_gap, may_follow, read_clone}
 use Rattle.ntfs_clone.specs.Header.{IsHeader, clone_header, clone_magic, clone_version, fixed_part, header_fields, header_in, is_clone_cluster, is_clone_count, is_device, magic_of, version_of}
 use Rattle.ntfs_clone.proofs.CopyLawLemmas.{saved-covered}
 use Rattle.ntfs_clone.proofs.SpellingLemmas.{spelled-read}
@@ -35,7 +35,7 @@ second true b is = is
 second false b is = absurd cc
 
 -- whatever stood before, more commands may follow where the last one wasn't a gap of 0
-unflagged : (c room : ℕ) (after : Bool) (commands : List Command) → AreInOrder c room after commands → AreInOrder c room false commands
+unflagged : (c room : ℕ) (after : Bool) (commands : List Command) → AreSequenced c room after commands → AreSequenced c room false commands
 unflagged c room after [] order = tt
 unflagged c room after (gap count ∷ commands) order =
     (order.0, and-true (nat_lt 0 room && nat_le count room) true (first-two (nat_lt 0 room) (nat_le count room) (not (after && nat_eq count 0)) order.1) refl, order.2)
@@ -55,22 +55,22 @@ gap-follows room count after within =
     each false = refl
 
 -- one cluster more is left out
-order-widened : (c room : ℕ) (before after : Bool) (commands : List Command) → AreInOrder c room before commands → AreInOrder c (room + 1) after (widened commands)
+order-widened : (c room : ℕ) (before after : Bool) (commands : List Command) → AreSequenced c room before commands → AreSequenced c (room + 1) after (widened commands)
 order-widened c room before after [] order = (refl, gap-follows room 0 after (omega arith), tt)
 order-widened c room before after (cluster bytes ∷ commands) order =
     let left : room + 1 - 1 ≡ room = omega arith in
-    (refl, gap-follows room 0 after (omega arith), subst (λ (n : ℕ). AreInOrder c n false (cluster bytes ∷ commands)) (sym left) (unflagged c room before (cluster bytes ∷ commands) order))
+    (refl, gap-follows room 0 after (omega arith), subst (λ (n : ℕ). AreSequenced c n false (cluster bytes ∷ commands)) (sym left) (unflagged c room before (cluster bytes ∷ commands) order))
 order-widened c room before after (gap count ∷ commands) order =
     let left : room - count ≡ room + 1 - (count + 1) = omega arith in
     let fits = leb-true count room (second (nat_lt 0 room) (nat_le count room) (first-two (nat_lt 0 room) (nat_le count room) (not (before && nat_eq count 0)) order.1)) in (
       refl,
       gap-follows room count after fits,
-      subst (λ (b : Bool). AreInOrder c (room + 1 - (count + 1)) b commands) (sym (not-empty count))
-          (subst (λ (n : ℕ). AreInOrder c n false commands) left (unflagged c (room - count) (is_empty_gap (gap count)) commands order.2)),
+      subst (λ (b : Bool). AreSequenced c (room + 1 - (count + 1)) b commands) (sym (not-empty count))
+          (subst (λ (n : ℕ). AreSequenced c n false commands) left (unflagged c (room - count) (is_empty_gap (gap count)) commands order.2)),
     )
 
 saved-order : (v : Volume) (from n : ℕ) (after : Bool) (tail : List ℕ) → length tail ≡ v.cluster → ((k : ℕ) → k < from + n → length (cluster_at v.image v.cluster k) ≡ v.cluster)
-    → AreInOrder v.cluster (n + 1) after (cluster_commands v from n (cluster tail ∷ []))
+    → AreSequenced v.cluster (n + 1) after (cluster_commands v from n (cluster tail ∷ []))
 saved-order v from zero after tail whole each = (omega (arith, whole), lt-ltb 0 (zero + 1) (omega arith), tt)
 saved-order v from (suc n) after tail whole each =
     let here = each from (omega arith) in
@@ -78,18 +78,18 @@ saved-order v from (suc n) after tail whole each =
     two (v.owned from) here behind
   where
     two : (b : Bool) → length (cluster_at v.image v.cluster from) ≡ v.cluster
-        → ((flag : Bool) → AreInOrder v.cluster (n + 1) flag (cluster_commands v (from + 1) n (cluster tail ∷ [])))
-        → AreInOrder v.cluster (suc n + 1) after
+        → ((flag : Bool) → AreSequenced v.cluster (n + 1) flag (cluster_commands v (from + 1) n (cluster tail ∷ [])))
+        → AreSequenced v.cluster (suc n + 1) after
         (if b then cluster (cluster_at v.image v.cluster from) ∷ cluster_commands v (from + 1) n (cluster tail ∷ []) else widened (cluster_commands v (from + 1) n (cluster tail ∷ [])))
     two true here behind =
         let left : n + 1 ≡ suc n + 1 - 1 = omega arith in (
           omega (arith, here),
           lt-ltb 0 (suc n + 1) (omega arith),
-          subst (λ (m : ℕ). AreInOrder v.cluster m false (cluster_commands v (from + 1) n (cluster tail ∷ []))) left (behind false),
+          subst (λ (m : ℕ). AreSequenced v.cluster m false (cluster_commands v (from + 1) n (cluster tail ∷ []))) left (behind false),
         )
     two false here behind =
         let more : n + 1 + 1 ≡ suc n + 1 = omega arith in
-        subst (λ (m : ℕ). AreInOrder v.cluster m after (widened (cluster_commands v (from + 1) n (cluster tail ∷ [])))) more
+        subst (λ (m : ℕ). AreSequenced v.cluster m after (widened (cluster_commands v (from + 1) n (cluster tail ∷ [])))) more
         (order-widened v.cluster (n + 1) false after (cluster_commands v (from + 1) n (cluster tail ∷ [])) (behind false))
 
 -- ---- the header
@@ -109,8 +109,8 @@ pub record HasFields (h : CloneHeader) : Type 0 where
   pub in_use : h.in_use < 256 ^ 8
   pub offset : h.offset < 256 ^ 4
 
-fields-read : (h : CloneHeader) (rest : List ℕ) → HasFields h → header_fields (take 50 (header_bytes h ++ rest)) ≡ h
-unfolding header_fields header_bytes
+fields-read : (h : CloneHeader) (rest : List ℕ) → HasFields h → header_fields (take 50 (clone_header_bytes h ++ rest)) ≡ h
+unfolding header_fields clone_header_bytes
 fields-read h rest has =
     let p1 = clone_magic ++ clone_version in
     let b1 = little_bytes 4 h.cluster in
@@ -151,8 +151,8 @@ front-fixed : (bytes : List ℕ) → 50 ≤ length bytes → fixed_part bytes �
 unfolding resize_of
 front-fixed bytes long = let none : 50 - length bytes ≡ 0 = omega arith in ap (λ n. take 50 bytes ++ replicate n 0) none ∙ append-nil (take 50 bytes)
 
-length-header : (h : CloneHeader) → length (header_bytes h) ≡ 56
-unfolding header_bytes
+length-header : (h : CloneHeader) → length (clone_header_bytes h) ≡ 56
+unfolding clone_header_bytes
 length-header h =
     let z = replicate {A = ℕ} 6 0 in
     let l1 = length-bytes_low_first 0 4 h.cluster in
@@ -162,20 +162,20 @@ length-header h =
     let l5 = length-bytes_low_first 0 4 h.offset in
     simp (length-append, l1, l2, l3, l4, l5) refl
 
-magic-read : (h : CloneHeader) (rest : List ℕ) → bytes_eq (magic_of (take 50 (header_bytes h ++ rest))) clone_magic ≡ true
-unfolding magic_of header_bytes
+magic-read : (h : CloneHeader) (rest : List ℕ) → bytes_eq (magic_of (take 50 (clone_header_bytes h ++ rest))) clone_magic ≡ true
+unfolding magic_of clone_header_bytes
 magic-read h rest = refl
 
-version-read : (h : CloneHeader) (rest : List ℕ) → bytes_eq (version_of (take 50 (header_bytes h ++ rest))) clone_version ≡ true
-unfolding version_of header_bytes piece_at
+version-read : (h : CloneHeader) (rest : List ℕ) → bytes_eq (version_of (take 50 (clone_header_bytes h ++ rest))) clone_version ≡ true
+unfolding version_of clone_header_bytes piece_at
 version-read h rest = refl
 
 -- a header that was spelled is read, with whatever stands behind it
-header-read : (h : CloneHeader) (rest : List ℕ) → IsHeader h → HasFields h → h.offset ≡ 56 → clone_header (header_bytes h ++ rest) ≡ Ok h
+header-read : (h : CloneHeader) (rest : List ℕ) → IsHeader h → HasFields h → h.offset ≡ 56 → clone_header (clone_header_bytes h ++ rest) ≡ Ok h
 unfolding clone_header header_in is_device is_clone_count
 header-read h rest is has at =
-    let bytes = header_bytes h ++ rest in
-    let long : 56 ≤ length bytes = omega (arith, length-append (header_bytes h) rest, length-header h) in
+    let bytes = clone_header_bytes h ++ rest in
+    let long : 56 ≤ length bytes = omega (arith, length-append (clone_header_bytes h) rest, length-header h) in
     let fixed = front-fixed bytes (omega (arith, long)) in
     let fields = fields-read h rest has in
     let magic = magic-read h rest in
@@ -248,10 +248,10 @@ all-clusters : (v : Volume) → (saved_header v).clusters ≡ v.clusters
 unfolding saved_header
 all-clusters v = refl
 
-in-order : (v : Volume) → IsVolume v → AreInOrder (saved_header v).cluster ((saved_header v).clusters + 1) false (saved_commands v)
+in-order : (v : Volume) → IsVolume v → AreSequenced (saved_header v).cluster ((saved_header v).clusters + 1) false (saved_commands v)
 unfolding saved_header
 in-order v is =
-    saved-order v 0 v.clusters false (tail_of v) (length-resized v.cluster _)
+    saved-order v 0 v.clusters false (clone_tail v) (length-resized v.cluster _)
     (λ k below. length-cluster_at v.image v.cluster k (let here = part-below k v.clusters v.cluster (omega (arith, below)) in omega (arith, here, is.bytes)))
 
 -- what was saved is read as it was
@@ -261,7 +261,7 @@ clone-read v is =
     let h = saved_header v in
     let body = commands_bytes (saved_commands v) in
     let header = header-read h body (saved-is-header v is) (saved-has-fields v is) (at-56 v) in
-    let behind : drop h.offset (header_bytes h ++ body) ≡ body =
-    ap (λ n. drop n (header_bytes h ++ body)) (at-56 v ∙ sym (length-header h)) ∙ drop-append_seam (header_bytes h) body in
+    let behind : drop h.offset (clone_header_bytes h ++ body) ≡ body =
+    ap (λ n. drop n (clone_header_bytes h ++ body)) (at-56 v ∙ sym (length-header h)) ∙ drop-append_seam (clone_header_bytes h) body in
     let commands = spelled-read h (saved_commands v) (saved-is-header v is) (in-order v is) (let e = saved-covered v in let f = all-clusters v in omega (arith, e, f)) in
     rw (header, behind, commands) refl

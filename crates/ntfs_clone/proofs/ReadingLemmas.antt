@@ -12,8 +12,8 @@ use Rattle.ntfs_clone.specs.declared.command.Progress.{Progress}
 use Rattle.ntfs_clone.specs.declared.fault.CloneFault.{CloneFault}
 use Rattle.ntfs_clone.specs.declared.fault.CloneFault.TheVariants.{BadClone}
 use Rattle.ntfs_clone.specs.declared.header.CloneHeader.{CloneHeader}
-use Rattle.ntfs_clone.specs.Commands.{Command, gap, cluster, command_length, command_in, next_command, commands_from, commands_length, covers, covered, may_follow, kept_if, is_empty_gap, right_commands, clone_commands, and_behind, emptied}
-use Rattle.ntfs_clone.specs.Reading.{IsBehind, HasRead, IsAllowed, found_in, found_length}
+use Rattle.ntfs_clone.specs.Commands.{Command, gap, cluster, command_length, command_in, next_command, commands_from, commands_length, covered_count, covered, may_follow, kept_if, is_empty_gap, right_commands, clone_commands, and_behind, emptied}
+use Rattle.ntfs_clone.specs.Reading.{IsBehind, HasRead, IsAllowed, command_found, found_length}
 
 -- before the first command
 pub behind-start : (h : CloneHeader) (all : List ℕ) (p : Progress) → p.room ≡ h.clusters + 1 → p.after_empty ≡ false → p.place ≡ h.offset
@@ -32,7 +32,7 @@ length-commands : (read : List Command) (command : Command) → commands_length 
 length-commands [] command = omega arith
 length-commands (x ∷ xs) command = let more = length-commands xs command in omega arith
 
-covered-more : (read : List Command) (command : Command) → covered (read ++ command ∷ []) ≡ covered read + covers command
+covered-more : (read : List Command) (command : Command) → covered (read ++ command ∷ []) ≡ covered read + covered_count command
 covered-more [] command = omega arith
 covered-more (x ∷ xs) command = let more = covered-more xs command in omega arith
 
@@ -42,16 +42,16 @@ none-in c room after command is = absurd cc
 
 -- the commands behind one
 pub commands-step : (most c room : ℕ) (after : Bool) (rest : List ℕ) (command : Command) → length rest ≤ most → next_command c room after rest ≡ Some command
-    → (m : ℕ) × (most ≡ suc m) × (commands_from most c room after rest ≡ command ∷ commands_from m c (room - covers command) (is_empty_gap command) (drop (command_length command) rest))
+    → (m : ℕ) × (most ≡ suc m) × (commands_from most c room after rest ≡ command ∷ commands_from m c (room - covered_count command) (is_empty_gap command) (drop (command_length command) rest))
 commands-step zero c room after [] command within is = absurd (none-in c room after command is)
 commands-step zero c room after (x ∷ xs) command within is = absurd (omega arith)
 commands-step (suc m) c room after rest command within is =
-    (m, refl, ap (λ found. and_behind found (λ command. commands_from m c (room - covers command) (is_empty_gap command) (drop (command_length command) rest))) is)
+    (m, refl, ap (λ found. and_behind found (λ command. commands_from m c (room - covered_count command) (is_empty_gap command) (drop (command_length command) rest))) is)
 
 pub commands-none : (most c room : ℕ) (after : Bool) (rest : List ℕ) → next_command c room after rest ≡ None → commands_from most c room after rest ≡ []
 commands-none zero c room after rest is = refl
 commands-none (suc m) c room after rest is =
-    ap (λ found. and_behind found (λ command. commands_from m c (room - covers command) (is_empty_gap command) (drop (command_length command) rest))) is
+    ap (λ found. and_behind found (λ command. commands_from m c (room - covered_count command) (is_empty_gap command) (drop (command_length command) rest))) is
 
 some-length : (command : Command) → 0 < command_length command
 some-length (gap count) = omega arith
@@ -60,8 +60,8 @@ some-length (cluster bytes) = omega arith
 -- behind one more command
 pub behind-step : (h : CloneHeader) (all : List ℕ) (read : List Command) (p q : Progress) (rest : List ℕ) (command : Command)
     → IsBehind h all read p rest → next_command h.cluster p.room p.after_empty rest ≡ Some command
-    → command_length command ≤ length rest → covers command ≤ p.room
-    → q.room ≡ p.room - covers command → q.after_empty ≡ is_empty_gap command → q.place ≡ p.place + command_length command
+    → command_length command ≤ length rest → covered_count command ≤ p.room
+    → q.room ≡ p.room - covered_count command → q.after_empty ≡ is_empty_gap command → q.place ≡ p.place + command_length command
     → IsBehind h all (read ++ command ∷ []) q (drop (command_length command) rest)
 behind-step h all read p q rest command is found within covers_less room after place =
     let step = commands-step is.most h.cluster p.room p.after_empty rest command is.enough found in
@@ -112,11 +112,11 @@ next-enough c room after here more least enough = two (nat_le (c + 1) (length he
     two false is = ap (λ xs. next_command c room after (here ++ xs)) (enough (leb-false (c + 1) (length here) is)) ∙ ap (next_command c room after) (append-nil here)
 
 -- how long a command is that was found whole
-pub found-length : (c : ℕ) (bytes : List ℕ) (command : Next) → found_length c command ≤ length bytes → command_length (found_in c bytes command) ≡ found_length c command
+pub found-length : (c : ℕ) (bytes : List ℕ) (command : Next) → found_length c command ≤ length bytes → command_length (command_found c bytes command) ≡ found_length c command
 found-length c bytes (next.Gap count) within = refl
 found-length c bytes next.Cluster within = simp (length-take, length-drop) (omega arith)
 
-pub found-covers : (c room : ℕ) (after : Bool) (bytes : List ℕ) (command : Next) → IsAllowed room after command → covers (found_in c bytes command) ≤ room
+pub found-covers : (c room : ℕ) (after : Bool) (bytes : List ℕ) (command : Next) → IsAllowed room after command → covered_count (command_found c bytes command) ≤ room
 found-covers c room after bytes (next.Gap count) is = is.1
 found-covers c room after bytes next.Cluster is = omega arith
 
@@ -147,16 +147,16 @@ ends-so h all read p rest is none =
 -- one more command was read
 pub behind-next : (h : CloneHeader) (all : List ℕ) (read : List Command) (p q : Progress) (rest here more left : List ℕ) (found : Option Next) (command : Next)
     → IsBehind h all read p rest → here ++ more ≡ rest
-    → option_map (found_in h.cluster here) found ≡ next_command h.cluster p.room p.after_empty (here ++ more) → found ≡ Some command
+    → option_map (command_found h.cluster here) found ≡ next_command h.cluster p.room p.after_empty (here ++ more) → found ≡ Some command
     → IsAllowed p.room p.after_empty command → found_length h.cluster command ≤ length here
-    → q.room ≡ p.room - covers (found_in h.cluster here command) → q.after_empty ≡ is_empty_gap (found_in h.cluster here command)
+    → q.room ≡ p.room - covered_count (command_found h.cluster here command) → q.after_empty ≡ is_empty_gap (command_found h.cluster here command)
     → q.place ≡ p.place + found_length h.cluster command → left ≡ drop (found_length h.cluster command) here
-    → IsBehind h all (read ++ found_in h.cluster here command ∷ []) q (left ++ more)
+    → IsBehind h all (read ++ command_found h.cluster here command ∷ []) q (left ++ more)
 behind-next h all read p q rest here more left found command is same exact some allowed whole room after place passed =
-    let x = found_in h.cluster here command in
+    let x = command_found h.cluster here command in
     let size : command_length x ≡ found_length h.cluster command = found-length h.cluster here command whole in
     let next : next_command h.cluster p.room p.after_empty rest ≡ Some x =
-    ap (next_command h.cluster p.room p.after_empty) (sym same) ∙ sym exact ∙ ap (option_map (found_in h.cluster here)) some in
+    ap (next_command h.cluster p.room p.after_empty) (sym same) ∙ sym exact ∙ ap (option_map (command_found h.cluster here)) some in
     let long : length rest ≡ length here + length more = ap length (sym same) ∙ length-append here more in
     let behind = behind-step h all read p q rest x is next (omega (arith, size, long)) (found-covers h.cluster p.room p.after_empty here command allowed) room after (place ∙ ap (λ n. p.place + n) (sym size)) in
     let where_now : drop (command_length x) rest ≡ left ++ more =
@@ -166,13 +166,13 @@ behind-next h all read p q rest here more left found command is same exact some 
 
 pub read-step : (h : CloneHeader) (all : List ℕ) (p q : Progress) (rest here more left : List ℕ) (found : Option Next) (command : Next)
     → HasRead h all p rest → here ++ more ≡ rest
-    → option_map (found_in h.cluster here) found ≡ next_command h.cluster p.room p.after_empty (here ++ more) → found ≡ Some command
+    → option_map (command_found h.cluster here) found ≡ next_command h.cluster p.room p.after_empty (here ++ more) → found ≡ Some command
     → IsAllowed p.room p.after_empty command → found_length h.cluster command ≤ length here
-    → q.room ≡ p.room - covers (found_in h.cluster here command) → q.after_empty ≡ is_empty_gap (found_in h.cluster here command)
+    → q.room ≡ p.room - covered_count (command_found h.cluster here command) → q.after_empty ≡ is_empty_gap (command_found h.cluster here command)
     → q.place ≡ p.place + found_length h.cluster command → left ≡ drop (found_length h.cluster command) here
     → HasRead h all q (left ++ more)
 read-step h all p q rest here more left found command is same exact some allowed whole room after place passed = record {
-  read = is.read ++ found_in h.cluster here command ∷ [];
+  read = is.read ++ command_found h.cluster here command ∷ [];
   behind = behind-next h all is.read p q rest here more left found command is.behind same exact some allowed whole room after place passed;
 }
 
@@ -185,12 +185,12 @@ waits-none c here more enough =
 -- the answer where none follows
 pub read-end : (h : CloneHeader) (all : List ℕ) (p : Progress) (rest here more : List ℕ) (found : Option Next) (result : Result (Unit {0}) CloneFault)
     → HasRead h all p rest → here ++ more ≡ rest → (length here < h.cluster + 1 → more ≡ [])
-    → option_map (found_in h.cluster here) found ≡ next_command h.cluster p.room p.after_empty (here ++ more) → found ≡ None
+    → option_map (command_found h.cluster here) found ≡ next_command h.cluster p.room p.after_empty (here ++ more) → found ≡ None
     → result ≡ must (nat_eq (length here) 0 && nat_le p.room 1) (BadClone p.place)
     → emptied (clone_commands h all) ≡ result
 read-end h all p rest here more found result is same enough exact none said =
     let next : next_command h.cluster p.room p.after_empty rest ≡ None =
-    ap (next_command h.cluster p.room p.after_empty) (sym same) ∙ sym exact ∙ ap (option_map (found_in h.cluster here)) none in
+    ap (next_command h.cluster p.room p.after_empty) (sym same) ∙ sym exact ∙ ap (option_map (command_found h.cluster here)) none in
     ends-so h all is.read p rest is.behind next
     ∙ ap (λ xs. must (nat_eq (length xs) 0 && nat_le p.room 1) (BadClone p.place)) (sym same)
     ∙ ap (λ b. must (b && nat_le p.room 1) (BadClone p.place)) (sym (waits-none h.cluster here more enough)) ∙ sym said
@@ -198,11 +198,11 @@ read-end h all p rest here more found result is same enough exact none said =
 -- what was read, where none follows
 pub read-all : (h : CloneHeader) (all : List ℕ) (commands : List Command) (p : Progress) (rest here more : List ℕ) (found : Option Next)
     → IsBehind h all commands p rest → here ++ more ≡ rest
-    → option_map (found_in h.cluster here) found ≡ next_command h.cluster p.room p.after_empty (here ++ more) → found ≡ None
+    → option_map (command_found h.cluster here) found ≡ next_command h.cluster p.room p.after_empty (here ++ more) → found ≡ None
     → right_commands h all ≡ commands
 read-all h all commands p rest here more found is same exact none =
     behind-end h all commands p rest is
-    (ap (next_command h.cluster p.room p.after_empty) (sym same) ∙ sym exact ∙ ap (option_map (found_in h.cluster here)) none)
+    (ap (next_command h.cluster p.room p.after_empty) (sym same) ∙ sym exact ∙ ap (option_map (command_found h.cluster here)) none)
 
 -- the commands end before the tail
 pub before-tail : (h : CloneHeader) (all : List ℕ) (commands : List Command) (p : Progress) (rest : List ℕ) → IsBehind h all commands p rest

@@ -17,7 +17,7 @@ use Rattle.ntfs_boot.specs.declared.geometry.BootFault.TheVariants as boot_error
 use Rattle.ntfs_boot.specs.declared.geometry.Geometry.{Geometry}
 use Rattle.ntfs_boot.specs.declared.volume.ImageFault.{ImageFault}
 use Rattle.ntfs_boot.specs.declared.volume.ImageFault.TheVariants as image_error
-use Rattle.ntfs_check.specs.Checked.{Stands}
+use Rattle.ntfs_check.specs.Checked.{StandsOn}
 use Rattle.ntfs_check.specs.Findings.{VolumeFindings}
 use Rattle.ntfs_check_clusters.specs.Outcome.{claimed_set}
 use Rattle.ntfs_clone.proofs.CopyLawLemmas.{copy-restored}
@@ -26,7 +26,7 @@ use Rattle.ntfs_clone.proofs.OpenedLemmas.{sized-volume}
 use Rattle.ntfs_clone.proofs.PlaceLemmas.{cluster-placed, length-resized, tail-placed}
 use Rattle.ntfs_clone.proofs.ReadBackLemmas.{clone-read}
 use Rattle.ntfs_clone.proofs.VolumeLemmas.{IsSized, sized-least, sized-most}
-use Rattle.ntfs_clone.specs.CloneOf.{Volume, clone_of, tail_of, volume_of}
+use Rattle.ntfs_clone.specs.CloneOf.{Volume, clone_of, clone_tail, volume_of}
 use Rattle.ntfs_clone.specs.Commands.{Clone}
 use Rattle.ntfs_clone.specs.Copying.{copied_clusters, copy_of}
 use Rattle.ntfs_clone.specs.Restored.{restore_of, restored}
@@ -168,7 +168,7 @@ copy-free image o k is below none =
 
 copy-size : (v : Volume) → length (copy_of v) ≡ v.device
 unfolding copy_of
-copy-size v = length-resized v.device (copied_clusters v v.clusters ++ tail_of v)
+copy-size v = length-resized v.device (copied_clusters v v.clusters ++ clone_tail v)
 
 copy-holds : (image : List ℕ) (o : Opened) → IsWhole image o → HoldsOwned image (copy_of (owned_volume image o)) o
 copy-holds image o is =
@@ -201,6 +201,6 @@ clone-restored image o is =
 
 -- ---- a checked volume
 
-pub found-volume : (s : ImageState) (o : Opened) (f : VolumeFindings) → Stands s o f → IsTrue s.is_told → volume_of o.geometry f.owned s.content ≡ owned_volume s.content o
+pub found-volume : (s : ImageState) (o : Opened) (f : VolumeFindings) → StandsOn s o f → IsTrue s.is_told → volume_of o.geometry f.owned s.content ≡ owned_volume s.content o
 unfolding volume_data
 found-volume s o f stands told = ap (λ (f : VolumeFindings). volume_of o.geometry f.owned s.content) (stands.found told)

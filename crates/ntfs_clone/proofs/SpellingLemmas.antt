@@ -8,7 +8,7 @@ use Rattle.ntfs_base.specs.Bytes.{number_at}
 use Rattle.ntfs_base.proofs.BytesLemmas.{number_at-append}
 use Rattle.ntfs_base.proofs.PieceLemmas.{number-bytes}
 use Rattle.ntfs_clone.specs.declared.header.CloneHeader.{CloneHeader}
-use Rattle.ntfs_clone.specs.Commands.{AreInOrder, Command, gap, cluster, command_bytes, commands_bytes, command_in, command_length, commands_length, next_command, commands_from, and_behind, covers, covered, may_follow, is_empty_gap, right_commands, clone_commands}
+use Rattle.ntfs_clone.specs.Commands.{AreSequenced, Command, gap, cluster, command_bytes, commands_bytes, command_in, command_length, commands_length, next_command, commands_from, and_behind, covered_count, covered, may_follow, is_empty_gap, right_commands, clone_commands}
 use Rattle.ntfs_clone.specs.Header.{IsHeader}
 use Rattle.ntfs_clone.proofs.ReadingLemmas.{commands-none}
 
@@ -61,7 +61,7 @@ none-left : (c room : ℕ) (after : Bool) → next_command c room after [] ≡ N
 unfolding next_command command_in
 none-left c room after = refl
 
-reads-spelled : (commands : List Command) (most c room : ℕ) (after : Bool) → room < 2 ^ 64 → AreInOrder c room after commands
+reads-spelled : (commands : List Command) (most c room : ℕ) (after : Bool) → room < 2 ^ 64 → AreSequenced c room after commands
     → length (commands_bytes commands) ≤ most → commands_from most c room after (commands_bytes commands) ≡ commands
 reads-spelled [] most c room after small order within = commands-none most c room after [] (none-left c room after)
 reads-spelled (x ∷ xs) zero c room after small order within =
@@ -74,13 +74,13 @@ reads-spelled (x ∷ xs) (suc m) c room after small order within =
     let size = length-command x in
     let all = length-append (command_bytes x) (commands_bytes xs) in
     let next = spelled-next c room after x (commands_bytes xs) small order.0 order.1 in
-    let behind = reads-spelled xs m c (room - covers x) (is_empty_gap x) (omega arith) order.2 (omega (arith, some, size, all, within)) in
-    ap (λ found. and_behind found (λ command. commands_from m c (room - covers command) (is_empty_gap command) (drop (command_length command) (command_bytes x ++ commands_bytes xs)))) next
-    ∙ ap (λ rest. x ∷ commands_from m c (room - covers x) (is_empty_gap x) rest) (drop-command x (commands_bytes xs))
+    let behind = reads-spelled xs m c (room - covered_count x) (is_empty_gap x) (omega arith) order.2 (omega (arith, some, size, all, within)) in
+    ap (λ found. and_behind found (λ command. commands_from m c (room - covered_count command) (is_empty_gap command) (drop (command_length command) (command_bytes x ++ commands_bytes xs)))) next
+    ∙ ap (λ rest. x ∷ commands_from m c (room - covered_count x) (is_empty_gap x) rest) (drop-command x (commands_bytes xs))
     ∙ ap (λ ys. x ∷ ys) behind
 
 -- commands in their order, which cover all clusters
-pub spelled-read : (h : CloneHeader) (commands : List Command) → IsHeader h → AreInOrder h.cluster (h.clusters + 1) false commands → h.clusters ≤ covered commands
+pub spelled-read : (h : CloneHeader) (commands : List Command) → IsHeader h → AreSequenced h.cluster (h.clusters + 1) false commands → h.clusters ≤ covered commands
     → clone_commands h (commands_bytes commands) ≡ Ok commands
 unfolding clone_commands right_commands
 spelled-read h commands header order all =

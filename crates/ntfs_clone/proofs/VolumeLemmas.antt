@@ -11,7 +11,7 @@ use Rattle.ntfs_base.proofs.BytesLemmas.{take-drop-take}
 use Rattle.ntfs_bitmap.specs.ClusterSet.{Clusters, count_where}
 use Rattle.ntfs_boot.specs.declared.geometry.Geometry.{Geometry}
 use Rattle.ntfs_boot.specs.Geometry.{IsCluster, IsGood, is_sector_count}
-use Rattle.ntfs_clone.specs.CloneOf.{device_of, header_bytes, owned_count, tail_of, volume_of}
+use Rattle.ntfs_clone.specs.CloneOf.{device_of, clone_header_bytes, owned_count, clone_tail, volume_of}
 use Rattle.ntfs_clone.specs.Header.{clone_magic, clone_version}
 use Rattle.ntfs_clone.specs.declared.header.CloneHeader.{CloneHeader}
 use Rattle.ntfs_clone.specs.Saving.{spelled_row}
@@ -145,7 +145,7 @@ pub tail-whole : (g : Geometry) (owned : Clusters) (image into tail after : List
     → end ≡ min device (length image) → g.clusters * g.cluster ≤ device → device ≤ g.clusters * g.cluster + g.cluster → g.clusters * g.cluster ≤ length image
     → length into ≡ length (take (end - g.clusters * c) tail) → into ≡ slice_range image (g.clusters * c) (g.clusters * c + length (take (end - g.clusters * c) tail))
     → after ≡ take (end - g.clusters * c) (into ++ drop (end - g.clusters * c) tail) ++ replicate (length (into ++ drop (end - g.clusters * c) tail) - (end - g.clusters * c)) 0
-    → after ≡ tail_of (volume_of g owned image)
+    → after ≡ clone_tail (volume_of g owned image)
 tail-whole g owned image into tail after c end device same device_is long end_is least most held long_into read cleared =
     let count = end - g.clusters * c in
     let place = g.clusters * g.cluster in
@@ -163,8 +163,8 @@ tail-whole g owned image into tail after c end device same device_is long end_is
 
 pub header-spelled : (h : CloneHeader) (w w1 w2 w3 w4 w5 w6 w7 b1 b2 b3 b4 b5 : List ℕ) → w1 ≡ w ++ (clone_magic ++ clone_version) → b1 ≡ little_bytes 4 h.cluster → w2 ≡ w1 ++ b1
     → b2 ≡ little_bytes 8 h.device → w3 ≡ w2 ++ b2 → b3 ≡ little_bytes 8 h.clusters → w4 ≡ w3 ++ b3 → b4 ≡ little_bytes 8 h.in_use → w5 ≡ w4 ++ b4
-    → b5 ≡ little_bytes 4 h.offset → w6 ≡ w5 ++ b5 → w7 ≡ w6 ++ replicate 6 0 → w7 ≡ w ++ header_bytes h
-unfolding header_bytes
+    → b5 ≡ little_bytes 4 h.offset → w6 ≡ w5 ++ b5 → w7 ≡ w6 ++ replicate 6 0 → w7 ≡ w ++ clone_header_bytes h
+unfolding clone_header_bytes
 header-spelled h w w1 w2 w3 w4 w5 w6 w7 b1 b2 b3 b4 b5 e1 f1 e2 f2 e3 f3 e4 f4 e5 f5 e6 e7 =
     e7 ∙ rw (e6, e5, e4, e3, e2, e1, f1, f2, f3, f4, f5)
     (spread-out w clone_magic clone_version (little_bytes 4 h.cluster) (little_bytes 8 h.device) (little_bytes 8 h.clusters) (little_bytes 8 h.in_use) (little_bytes 4 h.offset) (replicate 6 0))

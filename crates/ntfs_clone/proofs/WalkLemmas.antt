@@ -3,9 +3,9 @@ use Rattle.std.proofs.Common.{◌≡◌, ◌≤◌, ◌<◌, ◌+◌, ◌-◌, �
 use Rattle.std.proofs.Math.Dec.{eqb-suc-zero}
 use Rattle.std.proofs.lemmas.List.{append-nil, take_all}
 use Rattle.ntfs_base.specs.Bytes.{cluster_at}
-use Rattle.ntfs_clone.specs.CloneOf.{Volume, clone_of, cluster_commands, header_bytes, saved_commands, saved_header, tail_of, widened}
+use Rattle.ntfs_clone.specs.CloneOf.{Volume, clone_of, cluster_commands, clone_header_bytes, saved_commands, saved_header, clone_tail, widened}
 use Rattle.ntfs_clone.specs.Commands.{Command, gap, cluster, command_bytes, commands_bytes}
-use Rattle.ntfs_clone.specs.Saving.{IsStretch, spelled_gap, spelled_row}
+use Rattle.ntfs_clone.specs.Saving.{IsOwnedStretch, spelled_gap, spelled_row}
 use Rattle.ntfs_clone.specs.declared.stretch.Stretch.{Stretch}
 
 pub bytes-append : (a b : List Command) → commands_bytes (a ++ b) ≡ commands_bytes a ++ commands_bytes b
@@ -98,7 +98,7 @@ apart-behind v at (suc rest) next = rw (next (omega arith)) (owned (cluster_at v
 
 -- ---- a stretch
 
-pub stretch-commands : (v : Volume) (from : ℕ) (s : Stretch) → IsStretch v.owned v.clusters from s
+pub stretch-commands : (v : Volume) (from : ℕ) (s : Stretch) → IsOwnedStretch v.owned v.clusters from s
     → commands_bytes (cluster_commands v from (v.clusters - from) [])
     ≡ (spelled_row v.image v.cluster from (s.free - from) ++ spelled_gap (s.end - s.free)) ++ commands_bytes (cluster_commands v s.end (v.clusters - s.end) [])
 stretch-commands v from s is =
@@ -152,14 +152,14 @@ tail-row tail c long =
     ap (λ k. 1 ∷ take c (drop k tail)) none ∙ ap (λ xs. 1 ∷ xs) (take_all c tail (omega (arith, long)))
 
 -- the commands of all clusters, and then the tail
-pub saved-parts : (v : Volume) → commands_bytes (saved_commands v) ≡ commands_bytes (cluster_commands v 0 v.clusters []) ++ command_bytes (cluster (tail_of v))
+pub saved-parts : (v : Volume) → commands_bytes (saved_commands v) ≡ commands_bytes (cluster_commands v 0 v.clusters []) ++ command_bytes (cluster (clone_tail v))
 saved-parts v =
-    ap commands_bytes (commands-append v 0 v.clusters (tail_of v)) ∙ bytes-append (cluster_commands v 0 v.clusters []) (cluster (tail_of v) ∷ [])
-    ∙ ap (λ xs. commands_bytes (cluster_commands v 0 v.clusters []) ++ xs) (append-nil (command_bytes (cluster (tail_of v))))
+    ap commands_bytes (commands-append v 0 v.clusters (clone_tail v)) ∙ bytes-append (cluster_commands v 0 v.clusters []) (cluster (clone_tail v) ∷ [])
+    ∙ ap (λ xs. commands_bytes (cluster_commands v 0 v.clusters []) ++ xs) (append-nil (command_bytes (cluster (clone_tail v))))
 
 -- the header, the commands of all clusters, and the tail
-pub clone-parts : (v : Volume) → clone_of v ≡ (header_bytes (saved_header v) ++ commands_bytes (cluster_commands v 0 v.clusters [])) ++ command_bytes (cluster (tail_of v))
+pub clone-parts : (v : Volume) → clone_of v ≡ (clone_header_bytes (saved_header v) ++ commands_bytes (cluster_commands v 0 v.clusters [])) ++ command_bytes (cluster (clone_tail v))
 unfolding clone_of
 clone-parts v =
-    ap (λ xs. header_bytes (saved_header v) ++ xs) (saved-parts v)
-    ∙ sym (append_assoc (header_bytes (saved_header v)) (commands_bytes (cluster_commands v 0 v.clusters [])) (command_bytes (cluster (tail_of v))))
+    ap (λ xs. clone_header_bytes (saved_header v) ++ xs) (saved-parts v)
+    ∙ sym (append_assoc (clone_header_bytes (saved_header v)) (commands_bytes (cluster_commands v 0 v.clusters [])) (command_bytes (cluster (clone_tail v))))

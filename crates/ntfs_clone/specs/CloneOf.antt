@@ -56,11 +56,11 @@ cluster_commands v from (suc count) behind =
     else widened (cluster_commands v (from + 1) count behind)
 
 -- what stands behind all clusters up to the end of the device, as one cluster: with zeros where the image ends early
-abbrev pub tail_of : Volume → List ℕ
-tail_of v = resize_of v.cluster (take (v.device - v.clusters * v.cluster) (drop (v.clusters * v.cluster) v.image))
+abbrev pub clone_tail : Volume → List ℕ
+clone_tail v = resize_of v.cluster (take (v.device - v.clusters * v.cluster) (drop (v.clusters * v.cluster) v.image))
 
 abbrev pub saved_commands : Volume → List Command
-saved_commands v = cluster_commands v 0 v.clusters (cluster (tail_of v) ∷ [])
+saved_commands v = cluster_commands v 0 v.clusters (cluster (clone_tail v) ∷ [])
 
 -- how many of so many clusters from one on are owned
 abbrev pub owned_count : (ℕ → Bool) → ℕ → ℕ → ℕ
@@ -77,10 +77,10 @@ saved_header v = record {
 }
 
 -- the bytes of a header whose commands begin at 56
-unfoldable pub header_bytes : CloneHeader → List ℕ
-header_bytes h =
+unfoldable pub clone_header_bytes : CloneHeader → List ℕ
+clone_header_bytes h =
     clone_magic ++ (clone_version ++ (little_bytes 4 h.cluster ++ (little_bytes 8 h.device ++ (little_bytes 8 h.clusters
     ++ (little_bytes 8 h.in_use ++ (little_bytes 4 h.offset ++ replicate 6 0))))))
 
 unfoldable pub clone_of : Volume → List ℕ
-clone_of v = header_bytes (saved_header v) ++ commands_bytes (saved_commands v)
+clone_of v = clone_header_bytes (saved_header v) ++ commands_bytes (saved_commands v)

@@ -37,13 +37,13 @@ commands_length [] = 0
 commands_length (command ∷ commands) = command_length command + commands_length commands
 
 -- how many clusters it covers
-abbrev pub covers : Command → ℕ
-covers (gap count) = count
-covers (cluster bytes) = 1
+abbrev pub covered_count : Command → ℕ
+covered_count (gap count) = count
+covered_count (cluster bytes) = 1
 
 abbrev pub covered : List Command → ℕ
 covered [] = 0
-covered (command ∷ commands) = covers command + covered commands
+covered (command ∷ commands) = covered_count command + covered commands
 
 -- what it puts on a volume whose clusters have c bytes
 abbrev pub command_content : ℕ → Command → List ℕ
@@ -67,12 +67,12 @@ may_follow room after_empty (gap count) =
 may_follow room after_empty (cluster bytes) = nat_lt 0 room
 
 -- commands of clusters of c bytes that follow one another so
-abbrev pub AreInOrder : ℕ → ℕ → Bool → List Command → Type 0
-AreInOrder c room after_empty [] = Unit {0}
-AreInOrder c room after_empty (command ∷ commands) =
+abbrev pub AreSequenced : ℕ → ℕ → Bool → List Command → Type 0
+AreSequenced c room after_empty [] = Unit {0}
+AreSequenced c room after_empty (command ∷ commands) =
     (command_length command ≡ (elim command [ gap count ↦ 9 | cluster bytes ↦ 1 + c ]))
     × (may_follow room after_empty command ≡ true)
-    × AreInOrder c (room - covers command) (is_empty_gap command) commands
+    × AreSequenced c (room - covered_count command) (is_empty_gap command) commands
 
 -- ---- reading them
 
@@ -101,7 +101,7 @@ abbrev pub commands_from : ℕ → ℕ → ℕ → Bool → List ℕ → List Co
 commands_from zero c room after_empty bytes = []
 commands_from (suc most) c room after_empty bytes =
     and_behind (next_command c room after_empty bytes) (λ command.
-    commands_from most c (room - covers command) (is_empty_gap command) (drop (command_length command) bytes))
+    commands_from most c (room - covered_count command) (is_empty_gap command) (drop (command_length command) bytes))
 
 -- those of an image with this header, of which the bytes behind the header are given: each has a byte at least
 unfoldable pub right_commands : CloneHeader → List ℕ → List Command

@@ -7,7 +7,7 @@ use Rattle.ntfs_base.specs.Frames.{Because}
 use Rattle.ntfs_base.specs.Growth.{resize_of}
 use Rattle.ntfs_base.specs.declared.image.Image as image
 use Rattle.ntfs_clone.specs.declared.fault.CloneFault.{CloneFault}
-use Rattle.ntfs_clone.specs.CloneOf.{Volume, tail_of}
+use Rattle.ntfs_clone.specs.CloneOf.{Volume, clone_tail}
 use Rattle.ntfs_clone.specs.Fault.{clone_origin}
 
 -- the bytes of a cluster, or zeros where it isn't owned
@@ -25,7 +25,7 @@ copied_up_to v n = resize_of v.device (copied_clusters v n)
 
 -- the device with all clusters and the tail
 unfoldable pub copy_of : Volume → List ℕ
-copy_of v = resize_of v.device (copied_clusters v v.clusters ++ tail_of v)
+copy_of v = resize_of v.device (copied_clusters v v.clusters ++ clone_tail v)
 
 -- what a fault or want of memory leaves: nothing, or the device with the clusters before one, or the whole
 pub data IsPartCopy (v : Volume) (content : List ℕ) : Type 0 where

@@ -66,8 +66,8 @@ unfoldable pub is_clone_count : ℕ → Bool
 is_clone_count n = nat_lt 0 n && nat_lt n (2 ^ 32)
 
 -- the fields in their order, each with its place: an image of this length has it whole, and it is right
-abbrev pub header_checks : ℕ → List ℕ → CloneHeader → List (Check CloneFault)
-header_checks len front h =
+abbrev pub clone_header_checks : ℕ → List ℕ → CloneHeader → List (Check CloneFault)
+clone_header_checks len front h =
     check (nat_le 16 len && bytes_eq (magic_of front) clone_magic) (BadClone 0)
     ∷ check (nat_le 18 len && bytes_eq (version_of front) clone_version) (BadClone 16)
     ∷ check (nat_le 22 len && is_clone_cluster h.cluster) (BadClone 18)
@@ -79,7 +79,8 @@ header_checks len front h =
 
 -- what the fields of an image of this length give
 unfoldable pub header_in : ℕ → List ℕ → Result CloneHeader CloneFault
-header_in len front = refusal_or (first_wrong (header_checks len front (header_fields front))) (header_fields front)
+header_in len front =
+    refusal_or (first_wrong (clone_header_checks len front (header_fields front))) (header_fields front)
 
 -- the header with which the bytes begin. The bytes between the last field and the first command are skipped; they
 -- count as one field at 50, which is refused where it is cut off.

@@ -10,9 +10,9 @@ use Rattle.ntfs_clone.specs.Commands.{Command, gap, cluster, commands_from, comm
 use Rattle.ntfs_clone.specs.Taking.{to_come}
 
 -- the command that was found at the front of these bytes
-abbrev pub found_in : ℕ → List ℕ → Next → Command
-found_in c bytes (next.Gap count) = gap count
-found_in c bytes next.Cluster = cluster (take c (drop 1 bytes))
+abbrev pub command_found : ℕ → List ℕ → Next → Command
+command_found c bytes (next.Gap count) = gap count
+command_found c bytes next.Cluster = cluster (take c (drop 1 bytes))
 
 -- how many bytes it has
 abbrev pub found_length : ℕ → Next → ℕ

@@ -16,14 +16,15 @@ unfoldable pub laid_out : CloneHeader → List Command → List ℕ
 laid_out h commands = resize_of h.device (commands_content h.cluster commands)
 
 -- a geometry of as many clusters of the same size, and with room on the device for its sectors and their backup
-abbrev pub is_of : CloneHeader → Geometry → Bool
-is_of h g = (g.cluster == h.cluster) && (g.clusters == h.clusters) && nat_le ((g.sectors + 1) * g.sector) h.device
+abbrev pub fits_geometry : CloneHeader → Geometry → Bool
+fits_geometry h g =
+    (g.cluster == h.cluster) && (g.clusters == h.clusters) && nat_le ((g.sectors + 1) * g.sector) h.device
 
 -- the device with a copy of its first sector in the sector behind all sectors, where the first 512 bytes have such a
 -- geometry
 abbrev pub backed_up_as : CloneHeader → List ℕ → Result Geometry BootFault → List ℕ
 backed_up_as h content (Ok g) =
-    if is_of h g then overwrite (g.sectors * g.sector) (take g.sector content) content else content
+    if fits_geometry h g then overwrite (g.sectors * g.sector) (take g.sector content) content else content
 backed_up_as h content (Err fault) = content
 
 unfoldable pub backed_up : CloneHeader → List ℕ → List ℕ

@@ -12,7 +12,7 @@ use Rattle.ntfs_clone.specs.Fault.{clone_origin}
 
 -- from a cluster on the clusters up to a place are owned, and those from there up to an end aren't, as many as there
 -- are
-pub record IsStretch (owned : ℕ → Bool) (clusters from : ℕ) (stretch : Stretch) : Type 0 where
+pub record IsOwnedStretch (owned : ℕ → Bool) (clusters from : ℕ) (stretch : Stretch) : Type 0 where
   pub order : from ≤ stretch.free
   pub behind : stretch.free ≤ stretch.end
   pub within : stretch.end ≤ clusters

@@ -6,7 +6,7 @@ ghost use Rattle.ntfs_base.specs.Frames.{OnlyReads};
 ghost use Rattle.ntfs_boot.specs.Geometry.{IsGood, sector_geometry};
 ghost use Rattle.ntfs_clone.specs.Fault.{IsFileFault, clone_origin};
 ghost use Rattle.ntfs_clone.specs.Header.{IsHeader};
-ghost use Rattle.ntfs_clone.specs.Restored.{backed_up, is_of};
+ghost use Rattle.ntfs_clone.specs.Restored.{backed_up, fits_geometry};
 ghost use Rattle.ntfs_clone.specs.Writing.{IsSameFile, Makes, OnlyChanges};
 ghost use Rattle.ntfs_clone.specs.declared.fault.CloneFault.TheVariants.{ReadFault};
 
@@ -31,8 +31,8 @@ fn read_front<F: HostFile>(target: &mut F) -> Result<Result<Geometry, BootFault>
 }
 
 /// Whether a geometry is that of the volume that the header tells, and has room on the device with its backup.
-fn is_of(header: &CloneHeader, geometry: &Geometry) -> bool
-    ensures value { result ≡ is_of header.now geometry.now }
+fn fits_geometry(header: &CloneHeader, geometry: &Geometry) -> bool
+    ensures value { result ≡ fits_geometry header.now geometry.now }
     ensures inside { result ≡ true → (geometry.now.sectors + 1) * geometry.now.sector ≤ header.now.device }
 {
     let end = (u128::from(geometry.sectors) + 1) * u128::from(geometry.sector);
@@ -76,7 +76,11 @@ pub(crate) fn back_up<F: HostFile>(header: &CloneHeader, target: &mut F) -> Resu
     ensures changes { OnlyChanges F.Image target.old target.new result }
 {
     match read_front(target)? {
-        Ok(geometry) if is_of(header, &geometry) => copy_sector(&geometry, header.device, target),
+        Ok(geometry) if fits_geometry(header, &geometry) => copy_sector(
+            &geometry,
+            header.device,
+            target,
+        ),
         _ => Ok(()),
     }
 }

@@ -2,9 +2,9 @@
 
 ghost use Rattle.std.specs.Prelude.{◌≡◌, ◌≤◌, ◌<◌, ◌+◌, ◌-◌, ◌∷◌, ℕ, List, length, nat_le, option_map, false, IfSome, Some, None, if◌then◌else◌};
 ghost use Rattle.ntfs_base.specs.Bytes.{number_at};
-ghost use Rattle.ntfs_clone.specs.Commands.{covers, gap, is_empty_gap, kept_if, may_follow, next_command};
+ghost use Rattle.ntfs_clone.specs.Commands.{covered_count, gap, is_empty_gap, kept_if, may_follow, next_command};
 ghost use Rattle.ntfs_clone.specs.Header.{IsHeader};
-ghost use Rattle.ntfs_clone.specs.Reading.{HasPlace, IsAllowed, commands_left, found_in, found_length};
+ghost use Rattle.ntfs_clone.specs.Reading.{HasPlace, IsAllowed, commands_left, command_found, found_length};
 
 use crate::header::CloneHeader;
 use byteorder::{ByteOrder, LittleEndian};
@@ -63,9 +63,10 @@ impl Progress {
         requires fits { HasPlace self.now }
         requires allowed { IsAllowed self.now.room self.now.after_empty command.now }
         requires cluster { cluster ≤ 65536 }
-        ensures room { (bytes : List ℕ) → result.room ≡ self.now.room - covers (found_in cluster bytes command.now) }
+        ensures room { (bytes : List ℕ)
+            → result.room ≡ self.now.room - covered_count (command_found cluster bytes command.now) }
         ensures after_empty { (bytes : List ℕ)
-            → result.after_empty ≡ is_empty_gap (found_in cluster bytes command.now) }
+            → result.after_empty ≡ is_empty_gap (command_found cluster bytes command.now) }
         ensures place { result.place ≡ self.now.place + found_length cluster command.now }
         ensures fits { HasPlace result }
         ensures fewer { commands_left result.room result.after_empty
@@ -94,7 +95,7 @@ impl Progress {
 #[tactic(auto, unfolding(ntfs_base::specs::Bytes::number_at))]
 /// The gap whose number of clusters begins these bytes, where it may stand there.
 fn gap_in(rest: &[u8], progress: &Progress) -> Option<Next>
-    ensures exact { (c : ℕ) (bytes : List ℕ) → option_map (found_in c bytes) result
+    ensures exact { (c : ℕ) (bytes : List ℕ) → option_map (command_found c bytes) result
         ≡ kept_if (may_follow progress.now.room progress.now.after_empty)
         (if nat_le 8 (length rest.now) then Some (gap (number_at 8 0 rest.now)) else None) }
     ensures allowed { IfSome result (IsAllowed progress.now.room progress.now.after_empty) }
@@ -115,7 +116,7 @@ fn gap_in(rest: &[u8], progress: &Progress) -> Option<Next>
 /// The command whose first byte and further bytes these are.
 #[tactic(auto, unfolding(crate::specs::Commands::next_command, crate::specs::Commands::command_in))]
 fn command_of(kind: u8, rest: &[u8], cluster: usize, progress: &Progress) -> Option<Next>
-    ensures exact { option_map (found_in cluster (kind ∷ rest.now)) result
+    ensures exact { option_map (command_found cluster (kind ∷ rest.now)) result
         ≡ next_command cluster progress.now.room progress.now.after_empty (kind ∷ rest.now) }
     ensures allowed { IfSome result (IsAllowed progress.now.room progress.now.after_empty) }
     ensures whole { IfSome result (λ command. found_length cluster command ≤ 1 + length rest.now) }
@@ -132,7 +133,7 @@ fn command_of(kind: u8, rest: &[u8], cluster: usize, progress: &Progress) -> Opt
 /// The command with which the bytes begin, where it is whole and may stand there.
 #[tactic(auto, unfolding(crate::specs::Commands::next_command, crate::specs::Commands::command_in))]
 pub(crate) fn next_command(bytes: &[u8], cluster: usize, progress: &Progress) -> Option<Next>
-    ensures exact { option_map (found_in cluster bytes.now) result
+    ensures exact { option_map (command_found cluster bytes.now) result
         ≡ next_command cluster progress.now.room progress.now.after_empty bytes.now }
     ensures allowed { IfSome result (IsAllowed progress.now.room progress.now.after_empty) }
     ensures whole { IfSome result (λ command. found_length cluster command ≤ length bytes.now) }

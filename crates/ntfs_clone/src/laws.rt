@@ -5,7 +5,7 @@ ghost use Rattle.ntfs_bitmap.specs.ClusterSet.{Clusters};
 ghost use Rattle.ntfs_boot.specs.Geometry.{IsOpened};
 ghost use Rattle.ntfs_boot.specs.declared.geometry.Geometry.{Geometry};
 ghost use Rattle.ntfs_clone.specs.CloneOf.{IsVolume, Volume, clone_of, saved_commands, saved_header, volume_of};
-ghost use Rattle.ntfs_clone.specs.Commands.{AreInOrder, Command, clone_commands, commands_bytes, covered, read_clone};
+ghost use Rattle.ntfs_clone.specs.Commands.{AreSequenced, Command, clone_commands, commands_bytes, covered, read_clone};
 ghost use Rattle.ntfs_clone.specs.Copying.{IsPartCopy, copy_of};
 ghost use Rattle.ntfs_clone.specs.Header.{IsHeader};
 ghost use Rattle.ntfs_clone.specs.Restored.{restore_of, restored};
@@ -17,7 +17,7 @@ ghost use Rattle.ntfs_volume.specs.Opened.{Opened};
 /// Commands that follow one another as they may and cover all clusters, as they are spelled, are read as they are.
 pub fn spelled_commands_are_read()
     ensures { (h : CloneHeader) (commands : List Command) → IsHeader h
-        → AreInOrder h.cluster (h.clusters + 1) false commands → h.clusters ≤ covered commands
+        → AreSequenced h.cluster (h.clusters + 1) false commands → h.clusters ≤ covered commands
         → clone_commands h (commands_bytes commands) ≡ Ok commands }
 {}
 

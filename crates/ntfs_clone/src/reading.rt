@@ -5,7 +5,7 @@ ghost use Rattle.ntfs_base.specs.Frames.{Gives, OnlyTakes, must};
 ghost use Rattle.ntfs_clone.specs.Commands.{clone_commands, emptied, next_command};
 ghost use Rattle.ntfs_clone.specs.Fault.{IsReadOnlyFault, clone_origin};
 ghost use Rattle.ntfs_clone.specs.Header.{IsHeader};
-ghost use Rattle.ntfs_clone.specs.Reading.{IsAllowed, found_in, found_length, unread, waiting};
+ghost use Rattle.ntfs_clone.specs.Reading.{IsAllowed, command_found, found_length, unread, waiting};
 ghost use Rattle.ntfs_clone.specs.Taking.{HasGiven, to_come};
 ghost use Rattle.ntfs_clone.specs.declared.fault.CloneFault.TheVariants.{BadClone, ReadFault};
 
@@ -30,7 +30,7 @@ pub(crate) fn next<I: Source>(
     requires room { cluster < length input.old.bytes.items }
     ensures size { length input.new.bytes.items ≡ length input.old.bytes.items }
     ensures exact { IfOk result (λ found. IsTrue (I.seen source.old).is_told
-        → option_map (found_in cluster (waiting input.new)) found
+        → option_map (command_found cluster (waiting input.new)) found
         ≡ next_command cluster progress.now.room progress.now.after_empty (unread input.new (I.seen source.new))) }
     ensures unread { OnOk result (IsTrue (I.seen source.old).is_told
         → unread input.new (I.seen source.new) ≡ unread input.old (I.seen source.old)) }

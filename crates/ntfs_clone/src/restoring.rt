@@ -2,10 +2,10 @@
 
 ghost use Rattle.std.specs.Prelude.{◌≡◌, ◌≤◌, ◌<◌, ◌+◌, ◌-◌, ◌*◌, ◌⊎◌, ◌++◌, ◌∷◌, ◌==◌, [], List, length, take, true, None, IfOk, IfErr, IsOk, OnOk, OnErr, IfSome, IsTrue};
 ghost use Rattle.ntfs_base.specs.Frames.{Gives, IsSameDevice, OnlyTakes, OnlyWrites};
-ghost use Rattle.ntfs_clone.specs.Commands.{Command, clone_commands, covers, emptied, right_commands};
+ghost use Rattle.ntfs_clone.specs.Commands.{Command, clone_commands, covered_count, emptied, right_commands};
 ghost use Rattle.ntfs_clone.specs.Fault.{IsReadOnlyFault, IsRestoreFault, IsWriteFault, clone_origin};
 ghost use Rattle.ntfs_clone.specs.Header.{IsHeader};
-ghost use Rattle.ntfs_clone.specs.Reading.{IsAllowed, found_in, found_length};
+ghost use Rattle.ntfs_clone.specs.Reading.{IsAllowed, command_found, found_length};
 ghost use Rattle.ntfs_clone.specs.Restored.{laid_out};
 ghost use Rattle.ntfs_clone.specs.Taking.{HasGiven, to_come};
 ghost use Rattle.ntfs_clone.specs.Writing.{IsFront, IsHeld, IsRestored, IsSameFile, IsWritten, Makes, OnTarget, Reaches, Restores};
@@ -36,10 +36,10 @@ fn put<F: HostFile>(
     requires reaches { Reaches header.now progress.now.room row.old }
     requires size { (F.seen target.old).size ≡ header.now.device }
     ensures reaches { OnOk result (Reaches header.now
-        (progress.now.room - covers (found_in header.now.cluster bytes.now command.now)) row.new) }
+        (progress.now.room - covered_count (command_found header.now.cluster bytes.now command.now)) row.new) }
     ensures held { OnOk result ((read : List Command) → IsTrue (F.seen target.old).is_told
         → IsHeld header.now read row.old (F.seen target.old).content
-        → IsHeld header.now (read ++ found_in header.now.cluster bytes.now command.now ∷ []) row.new
+        → IsHeld header.now (read ++ command_found header.now.cluster bytes.now command.now ∷ []) row.new
         (F.seen target.new).content) }
     ensures front { OnErr result ((read : List Command) → IsTrue (F.seen target.old).is_told
         → IsHeld header.now read row.old (F.seen target.old).content

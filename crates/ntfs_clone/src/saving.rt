@@ -4,7 +4,7 @@ ghost use Rattle.std.specs.Prelude.{◌≡◌, ◌≤◌, ◌<◌, ◌+◌, ◌-
 ghost use Rattle.ntfs_base.specs.Frames.{Copies, IfTold, Puts};
 ghost use Rattle.ntfs_bitmap.specs.ClusterSet.{Clusters, bound_of};
 ghost use Rattle.ntfs_boot.specs.Geometry.{IsOpened};
-ghost use Rattle.ntfs_clone.specs.CloneOf.{clone_of, cluster_commands, tail_of, volume_of};
+ghost use Rattle.ntfs_clone.specs.CloneOf.{clone_of, cluster_commands, clone_tail, volume_of};
 ghost use Rattle.ntfs_clone.specs.Commands.{cluster, command_bytes, commands_bytes};
 ghost use Rattle.ntfs_clone.specs.Fault.{IsSaveFault, clone_origin};
 ghost use Rattle.ntfs_clone.specs.Saving.{HasPut, Saves, spelled_gap, spelled_row};
@@ -145,7 +145,7 @@ fn save_tail<G: Image, K: Sink>(
     requires opened { IsOpened (G.seen image.old).size geometry.now }
     requires row { length row.old ≡ 524288 }
     ensures saved { (owned : Clusters) → IfTold G.Image image.old (λ content. Saves
-        (command_bytes (cluster (tail_of (volume_of geometry.now owned content))))
+        (command_bytes (cluster (clone_tail (volume_of geometry.now owned content))))
         waiting.old.items (K.seen sink.old) result waiting.new.items (K.seen sink.new)) }
     ensures kept { HasPut (K.seen sink.old) (K.seen sink.new) }
     ensures copies { Copies G.Image K.Sink clone_origin image.old image.new sink.old sink.new result }

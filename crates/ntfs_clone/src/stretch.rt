@@ -2,7 +2,7 @@
 
 ghost use Rattle.std.specs.Prelude.{◌≡◌, ◌<◌};
 ghost use Rattle.ntfs_bitmap.specs.ClusterSet.{bound_of, has};
-ghost use Rattle.ntfs_clone.specs.Saving.{IsStretch};
+ghost use Rattle.ntfs_clone.specs.Saving.{IsOwnedStretch};
 
 use ntfs_bitmap::ClusterSet;
 
@@ -19,7 +19,7 @@ pub(crate) struct Stretch {
 pub(crate) fn stretch_from(owned: &ClusterSet, clusters: u64, from: u64) -> Stretch
     requires bound { bound_of owned.now ≡ clusters }
     requires below { from < clusters }
-    ensures { IsStretch (has owned.now) clusters from result }
+    ensures { IsOwnedStretch (has owned.now) clusters from result }
 {
     match owned.free_run_from(from, clusters) {
         None => Stretch {

@@ -4,7 +4,7 @@ ghost use Rattle.std.specs.Prelude.{◌≡◌, ◌≤◌, ◌+◌, ◌-◌, ◌*
 ghost use Rattle.ntfs_base.specs.Frames.{IfTold, OnlyReads};
 ghost use Rattle.ntfs_bitmap.specs.ClusterSet.{Clusters};
 ghost use Rattle.ntfs_boot.specs.Geometry.{IsGood, IsOpened};
-ghost use Rattle.ntfs_clone.specs.CloneOf.{device_of, saved_header, tail_of, volume_of};
+ghost use Rattle.ntfs_clone.specs.CloneOf.{device_of, saved_header, clone_tail, volume_of};
 ghost use Rattle.ntfs_clone.specs.Fault.{clone_origin};
 ghost use Rattle.ntfs_clone.specs.declared.fault.CloneFault.TheVariants.{ReadFault};
 
@@ -77,7 +77,7 @@ pub(crate) fn read_tail<G: Image>(
     requires opened { IsOpened (G.seen image.old).size geometry.now }
     requires length { length tail.old ≡ geometry.now.cluster }
     ensures bytes { (owned : Clusters) → OnOk result (IfTold G.Image image.old (λ content.
-        tail.new ≡ tail_of (volume_of geometry.now owned content))) }
+        tail.new ≡ clone_tail (volume_of geometry.now owned content))) }
     ensures reads { OnlyReads G.Image clone_origin image.old image.new result }
     ensures fails { IfErr result (λ fault. fault ≡ ReadFault) }
 {

@@ -2,7 +2,7 @@
 
 ghost use Rattle.std.specs.Prelude.{◌≡◌, ◌*◌, ◌++◌, [], length, IfErr, OnOk};
 ghost use Rattle.ntfs_base.specs.Sink.{Put};
-ghost use Rattle.ntfs_clone.specs.CloneOf.{header_bytes};
+ghost use Rattle.ntfs_clone.specs.CloneOf.{clone_header_bytes};
 ghost use Rattle.ntfs_clone.specs.Fault.{IsWriteFault};
 ghost use Rattle.ntfs_clone.specs.Saving.{OnlySaves, Saves, spelled_gap, spelled_row};
 
@@ -44,9 +44,9 @@ pub(crate) fn make_room<K: Sink>(
 }
 
 /// Appends the header of a clone image.
-#[tactic(auto, unfolding(crate::specs::CloneOf::header_bytes))]
+#[tactic(auto, unfolding(crate::specs::CloneOf::clone_header_bytes))]
 pub(crate) fn add_header(waiting: &mut Vec<u8>, header: &CloneHeader) -> Result<(), AllocError>
-    ensures { OnOk result (waiting.new.items ≡ waiting.old.items ++ header_bytes header.now) }
+    ensures { OnOk result (waiting.new.items ≡ waiting.old.items ++ clone_header_bytes header.now) }
 {
     waiting.extend_from_slice(b"\0ntfsclone-image\x0A\0")?;
     waiting.extend_from_slice(&header.cluster.to_le_bytes())?;

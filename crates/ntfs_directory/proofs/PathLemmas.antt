@@ -9,7 +9,7 @@ use Rattle.ntfs_base.specs.declared.image.Image as image
 use Rattle.ntfs_boot.specs.declared.geometry.Geometry.{Geometry}
 use Rattle.ntfs_directory.specs.Directory.{DirectoryWalk, begun_walk, only_refused}
 use Rattle.ntfs_directory.specs.Entries.{entry_record}
-use Rattle.ntfs_directory.specs.Paths.{IsPathRefusal, chosen, directory_at, found_in, has_like_name, has_name, named_in, no_part, or_like, part_in, parts_from, path_fault, path_of, path_origin, path_parts, pieces_of, record_below_root, record_of_parts, reference_in, reference_of, root_number, root_record}
+use Rattle.ntfs_directory.specs.Paths.{IsPathRefusal, chosen, directory_at, entry_found, has_like_name, has_units, named_in, no_part, or_like, part_in, parts_from, path_fault, path_of, path_origin, path_parts, pieces_of, record_below_root, record_of_parts, reference_in, reference_of, root_number, root_record}
 use Rattle.ntfs_directory.specs.State.{entry_before, whole}
 use Rattle.ntfs_directory.specs.UpCase.{up_case_of}
 use Rattle.ntfs_directory.specs.declared.entries.EntryRecord.{EntryRecord}
@@ -141,7 +141,7 @@ first_like (Some first) other = Some first
 -- what a walk gives where this reference was alike before it
 abbrev pub named_with : List ℕ → List ℕ → Option ℕ → DirectoryWalk → Result (Option ℕ) VolumeFault
 named_with upper name like walk =
-    chosen (option_map reference_of (find (has_name name) walk.entries)) walk.fault
+    chosen (option_map reference_of (find (has_units name) walk.entries)) walk.fault
     (first_like like (option_map reference_of (find (has_like_name upper name) walk.entries)))
 
 like-none : (like : Option ℕ) → first_like like None ≡ like
@@ -168,16 +168,16 @@ module _ (upper name : List ℕ) where
   named-fault like fault = refl
 
   module _ (like : Option ℕ) (entry : IndexEntry) (rest : DirectoryWalk) where
-    pub named-same : has_name name entry ≡ true
+    pub named-same : has_units name entry ≡ true
         → named_with upper name like (entry_before entry rest) ≡ Ok (Some entry.reference)
     named-same same = rw same refl
 
-    pub named-other : has_name name entry ≡ false
+    pub named-other : has_units name entry ≡ false
         → named_with upper name like (entry_before entry rest)
         ≡ named_with upper name (or_like like (has_like_name upper name entry) entry.reference) rest
     named-other other =
         let more = like-more like (has_like_name upper name entry) entry (find (has_like_name upper name) rest.entries) in
-        rw other (ap (chosen (option_map reference_of (find (has_name name) rest.entries)) rest.fault) more)
+        rw other (ap (chosen (option_map reference_of (find (has_units name) rest.entries)) rest.fault) more)
 
 -- ---- directories and parts over an image
 
@@ -194,23 +194,23 @@ module _ (g : Geometry) (map : Map) (content upper : List ℕ) where
   reference-refused d name fault begun = rw begun refl
 
   module _ (d : ℕ) (name : List ℕ) where
-    pub found-none : reference_in g map content upper d name ≡ Ok None → found_in g map content upper d name ≡ Ok None
-    unfolding found_in
+    pub found-none : reference_in g map content upper d name ≡ Ok None → entry_found g map content upper d name ≡ Ok None
+    unfolding entry_found
     found-none is = rw is refl
 
     pub found-refused : (fault : VolumeFault) → reference_in g map content upper d name ≡ Err fault
-        → found_in g map content upper d name ≡ Err fault
-    unfolding found_in
+        → entry_found g map content upper d name ≡ Err fault
+    unfolding entry_found
     found-refused fault is = rw is refl
 
     pub found-some : (reference : ℕ) (found : EntryRecord) → reference_in g map content upper d name ≡ Ok (Some reference)
-        → entry_record g map content d reference ≡ Ok found → found_in g map content upper d name ≡ Ok (Some found)
-    unfolding found_in
+        → entry_record g map content d reference ≡ Ok found → entry_found g map content upper d name ≡ Ok (Some found)
+    unfolding entry_found
     found-some reference found is entry = rw (is, entry) refl
 
     pub found-bad : (reference : ℕ) (fault : VolumeFault) → reference_in g map content upper d name ≡ Ok (Some reference)
-        → entry_record g map content d reference ≡ Err fault → found_in g map content upper d name ≡ Err fault
-    unfolding found_in
+        → entry_record g map content d reference ≡ Err fault → entry_found g map content upper d name ≡ Err fault
+    unfolding entry_found
     found-bad reference fault is entry = rw (is, entry) refl
 
   module _ (k : ℕ) (at : EntryRecord) (all : List (List ℕ)) where

@@ -78,8 +78,8 @@ path_origin path.NoMemory = memory
 -- ---- one part
 
 -- the same units: the name in a key has two bytes to each, as a part's name has
-abbrev pub has_name : List ℕ → IndexEntry → Bool
-has_name name entry = bytes_eq (key_name entry.key) name
+abbrev pub has_units : List ℕ → IndexEntry → Bool
+has_units name entry = bytes_eq (key_name entry.key) name
 
 -- the same name under a table of upper-case units
 abbrev pub has_like_name : List ℕ → List ℕ → IndexEntry → Bool
@@ -102,7 +102,7 @@ reference_of entry = entry.reference
 -- the reference of a name in a walk, where it has one
 unfoldable pub named_in : List ℕ → List ℕ → DirectoryWalk → Result (Option ℕ) VolumeFault
 named_in upper name walk =
-    chosen (option_map reference_of (find (has_name name) walk.entries)) walk.fault
+    chosen (option_map reference_of (find (has_units name) walk.entries)) walk.fault
     (option_map reference_of (find (has_like_name upper name) walk.entries))
 
 -- the record of a reference, where there is one
@@ -119,8 +119,8 @@ reference_in g map image upper d name = do
   named_in upper name walk
 
 -- the record of a name in directory d, where it has one
-unfoldable pub found_in : Geometry → Map → List ℕ → List ℕ → ℕ → List ℕ → Result (Option EntryRecord) VolumeFault
-found_in g map image upper d name = do
+unfoldable pub entry_found : Geometry → Map → List ℕ → List ℕ → ℕ → List ℕ → Result (Option EntryRecord) VolumeFault
+entry_found g map image upper d name = do
   reference ← reference_in g map image upper d name
   record_named g map image d reference
 
@@ -128,7 +128,7 @@ found_in g map image upper d name = do
 unfoldable pub part_in : Geometry → Map → List ℕ → List ℕ → ℕ → EntryRecord → List ℕ → Result EntryRecord PathFault
 part_in g map image upper k at part = do
   _ ← must at.is_directory (no_part k)
-  found ← refused_as (path_fault k) (found_in g map image upper at.number (name_bytes part))
+  found ← refused_as (path_fault k) (entry_found g map image upper at.number (name_bytes part))
   ok_or found (no_part k)
 
 -- ---- all parts

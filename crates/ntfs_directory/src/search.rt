@@ -88,7 +88,7 @@ pub(crate) fn find_in<G: Image>(
     requires held { HasClusters (G.seen image.old).size table.now }
     requires block { length block.old ≡ table.now.geometry.record_size }
     ensures gives { IfTold G.Image image.old (λ content. Gives volume_origin (λ found. found)
-        (spec.found_in table.now.geometry table.now.map content upper.now number name.now) result) }
+        (spec.entry_found table.now.geometry table.now.map content upper.now number name.now) result) }
     ensures reads { OnlyReads G.Image volume_origin image.old image.new result }
 {
     match find_reference(alloc, image, table, upper, number, name) {

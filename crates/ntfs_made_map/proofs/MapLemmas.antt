@@ -24,7 +24,7 @@ use Rattle.ntfs_make.specs.declared.table.LowestVcn.TheVariants.{Behind}
 use Rattle.ntfs_make.specs.declared.table.PlannedRun.TheVariants.{NoRun, InArea}
 use Rattle.ntfs_make.specs.Areas.{area_at}
 use Rattle.ntfs_make.specs.Attributes.{value_of}
-use Rattle.ntfs_make.specs.Extents.{extent_runs, planned_runs, run_of, size_of}
+use Rattle.ntfs_make.specs.Extents.{extent_runs, planned_runs, run_of, size_bytes}
 use Rattle.ntfs_make.specs.Laws.{area_clusters}
 use Rattle.ntfs_make.specs.Records.{record_of_row}
 use Rattle.ntfs_make.specs.Shape.{IsShape}
@@ -211,7 +211,7 @@ table-fits shape is =
 record-map : (shape : Shape) (first : FileRecord) → IsShape shape → first.head ≡ made_head table_row
     → attributes_of first ≡ read_attributes shape table_row
     → map_of_record (made_geometry shape) (made_cluster shape) first ≡ Ok (made_map shape)
-unfolding made_geometry made_map made_face made_laid size_of
+unfolding made_geometry made_map made_face made_laid size_bytes
 record-map shape first is head are =
     let read = table-read shape is in
     let room = rooms shape is in

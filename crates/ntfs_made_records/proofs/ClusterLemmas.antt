@@ -19,7 +19,7 @@ use Rattle.ntfs_make.specs.declared.table.Size.{Size}
 use Rattle.ntfs_make.specs.declared.table.Size.TheVariants as a_size
 use Rattle.ntfs_make.specs.Areas.{area_at, areas_of, no_area}
 use Rattle.ntfs_make.specs.Attributes.{allocated_size_of, extent_lowest, extent_next}
-use Rattle.ntfs_make.specs.Extents.{extent_runs, pairs_of, planned_runs, run_of, size_of, unless_empty, vcn_count}
+use Rattle.ntfs_make.specs.Extents.{extent_runs, pairs_of, planned_runs, run_of, size_bytes, unless_empty, vcn_count}
 use Rattle.ntfs_make.specs.Shape.{IsShape}
 use Rattle.ntfs_make.specs.Volume.{LiesInVolume}
 use Rattle.ntfs_make.proofs.AreaLemmas.{AllAreas, all-lie}
@@ -158,8 +158,8 @@ is_small (a_size.InArea number) = true
 is_small a_size.Bitmap = true
 is_small a_size.Volume = true
 
-size-small : (shape : Shape) (size : Size) → IsShape shape → is_small size ≡ true → size_of shape size < 2 ^ 64
-unfolding size_of
+size-small : (shape : Shape) (size : Size) → IsShape shape → is_small size ≡ true → size_bytes shape size < 2 ^ 64
+unfolding size_bytes
 size-small shape (a_size.Exact count) is small = let most = ltb-true count (2 ^ 32) small in omega arith
 size-small shape (a_size.Clusters count) is small =
     let b = bounds shape is in
@@ -227,8 +227,8 @@ pub record IsPlanned (shape : Shape) (extent : Extent) : Type 0 where
   pub lowest : extent_lowest shape extent ≤ 2 ^ 40
   pub next : extent_next shape extent ≤ 2 ^ 40
   pub allocated : allocated_size_of shape extent < 2 ^ 64
-  pub size : size_of shape extent.size < 2 ^ 64
-  pub initialised : size_of shape extent.initialised < 2 ^ 64
+  pub size : size_bytes shape extent.size < 2 ^ 64
+  pub initialised : size_bytes shape extent.initialised < 2 ^ 64
   pub flags : extent.flags < 65536
   pub unit : extent.unit < 65536
   pub cells : HasMadeCells shape extent

@@ -13,7 +13,7 @@ use Rattle.ntfs_make.specs.declared.shape.Shape.{Shape}
 use Rattle.ntfs_make.specs.declared.table.Extent.{Extent}
 use Rattle.ntfs_make.specs.declared.table.Size.{Size}
 use Rattle.ntfs_make.specs.Attributes.{allocated_size_of, compressed_size_bytes, extent_lowest, extent_next, front_bytes, nonresident_bytes, pairs_place, sizes_bytes, tail_bytes}
-use Rattle.ntfs_make.specs.Extents.{pairs_of, planned_runs, size_of}
+use Rattle.ntfs_make.specs.Extents.{pairs_of, planned_runs, size_bytes}
 use Rattle.ntfs_make.specs.Fields.{fields_bytes, utf16_bytes, with_padding, zero_bytes}
 use Rattle.ntfs_make.specs.ReadBack.{FitsExtent, IsExtentOf}
 use Rattle.ntfs_make.proofs.ReadBackLemmas.{extent-read}
@@ -33,8 +33,8 @@ pub record HasSmallRuns (shape : Shape) (kind : ℕ) (name : List ℕ) (instance
   pub lowest_fits : extent_lowest shape extent ≤ 2 ^ 40
   pub next_fits : extent_next shape extent ≤ 2 ^ 40
   pub allocated_fits : allocated_size_of shape extent < 2 ^ 64
-  pub size_fits : size_of shape extent.size < 2 ^ 64
-  pub initialised_fits : size_of shape extent.initialised < 2 ^ 64
+  pub size_fits : size_bytes shape extent.size < 2 ^ 64
+  pub initialised_fits : size_bytes shape extent.initialised < 2 ^ 64
   pub one : (name ≡ []) ⊎ (extent.compressed_size ≡ None)
 
 -- ---- what stands before the pairs

@@ -11,7 +11,7 @@ use Rattle.ntfs_volume.specs.Located.{Located, idle}
 use Rattle.ntfs_make.specs.declared.shape.Shape.{Shape}
 use Rattle.ntfs_make.specs.declared.table.Extent.{Extent}
 use Rattle.ntfs_make.specs.Attributes.{allocated_size_of, attribute_bytes, attributes_bytes, extent_lowest, extent_next, front_bytes, pairs_place, value_of}
-use Rattle.ntfs_make.specs.Extents.{extent_runs, pairs_of, planned_runs, size_of}
+use Rattle.ntfs_make.specs.Extents.{extent_runs, pairs_of, planned_runs, size_bytes}
 use Rattle.ntfs_make.specs.Fields.{utf16_bytes, with_padding, zero_bytes}
 use Rattle.ntfs_make.specs.Records.{base_reference, link_count}
 use Rattle.ntfs_make.specs.Table.{AttributeValue, BodyValue, ZerosBody, BytesBody, ListBody, NameBody, RootBody, ExtentBody, RowValue}
@@ -49,8 +49,8 @@ extent_face shape kind name instance extent = record {
   lowest = extent_lowest shape extent;
   next = extent_next shape extent;
   allocated = allocated_size_of shape extent;
-  size = size_of shape extent.size;
-  valid = size_of shape extent.initialised;
+  size = size_bytes shape extent.size;
+  valid = size_bytes shape extent.initialised;
   unit = little_bytes 2 extent.unit ++ zero_bytes 4;
   packed = take 8 (front_bytes shape name extent);
 }

@@ -13,7 +13,7 @@ use Rattle.ntfs_make.specs.declared.table.ListEntry.{ListEntry}
 use Rattle.ntfs_make.specs.Areas.{area_at}
 use Rattle.ntfs_make.specs.Attributes.{allocated_size_of, extent_lowest, extent_next, list_entry_bytes, listed_lowest, nonresident_bytes, pairs_place, resident_bytes, sizes_bytes, tail_bytes}
 use Rattle.ntfs_make.specs.Boot.{boot_front, boot_sector}
-use Rattle.ntfs_make.specs.Extents.{size_of}
+use Rattle.ntfs_make.specs.Extents.{size_bytes}
 use Rattle.ntfs_make.specs.Fields.{field_bytes, fields_bytes, utf16_bytes, with_padding, zero_bytes}
 use Rattle.ntfs_make.specs.Index.{clusters_per_block, entry_bytes, file_name_bytes, flag_of, reference, root_bytes, root_entries}
 use Rattle.ntfs_make.specs.ReadBack.{AllFit, Fits, FitsBoot, FitsEntry, FitsExtent, FitsHeader, FitsListEntry, FitsResident, FitsRoot, IsBootOf, IsEntryOf, IsExtentOf, IsHeaderOf, IsListEntryOf, IsResidentOf, IsRootOf, ReadsField, ReadsFields, width}
@@ -158,7 +158,7 @@ extent-read shape kind name instance extent rest fits =
     let front = U32 kind ∷ U32 (64 + length tail) ∷ U8 1 ∷ U8 (length name) ∷ U16 64 ∷ U16 extent.flags ∷ U16 instance ∷ [] in
     let sizes = U64 (extent_lowest shape extent) ∷ U64 ((extent_next shape extent + (2 ^ 64 - 1)) % 2 ^ 64)
     ∷ U16 (pairs_place shape name extent) ∷ U16 extent.unit ∷ U32 0 ∷ U64 (allocated_size_of shape extent)
-    ∷ U64 (size_of shape extent.size) ∷ U64 (size_of shape extent.initialised) ∷ [] in
+    ∷ U64 (size_bytes shape extent.size) ∷ U64 (size_bytes shape extent.initialised) ∷ [] in
     let one : fields_bytes (front ++ sizes) ++ (tail ++ rest)
     ≡ ((fields_bytes front ++ fields_bytes sizes) ++ tail) ++ rest
     = ap (λ bytes. bytes ++ (tail ++ rest)) (two-rows front sizes)

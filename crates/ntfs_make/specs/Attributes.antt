@@ -12,7 +12,7 @@ use Rattle.ntfs_make.specs.declared.table.Extent.{Extent}
 use Rattle.ntfs_make.specs.Fields.{fields_bytes, with_padding, utf16_bytes, zero_bytes}
 use Rattle.ntfs_make.specs.Table.{AttributeValue, BodyValue, ZerosBody, BytesBody, ListBody, NameBody, RootBody, ExtentBody}
 use Rattle.ntfs_make.specs.Areas.{area_at}
-use Rattle.ntfs_make.specs.Extents.{run_of, vcn_count, pairs_of, size_of, planned_runs}
+use Rattle.ntfs_make.specs.Extents.{run_of, vcn_count, pairs_of, size_bytes, planned_runs}
 use Rattle.ntfs_make.specs.Index.{reference, file_name_bytes, root_bytes}
 
 -- the lowest VCN that an entry of an attribute list tells
@@ -66,7 +66,7 @@ resident_bytes kind name instance value =
 -- the bytes of the extent's clusters, where the extent tells them
 unfoldable pub compressed_size_bytes : Shape → Option Size → List ℕ
 compressed_size_bytes shape None = []
-compressed_size_bytes shape (Some size) = fields_bytes (U64 (size_of shape size) ∷ [])
+compressed_size_bytes shape (Some size) = fields_bytes (U64 (size_bytes shape size) ∷ [])
 
 -- the lowest VCN of an extent: how many stand before it in its stream
 abbrev pub extent_lowest : Shape → Extent → ℕ
@@ -107,8 +107,8 @@ sizes_bytes shape place extent =
     ∷ U16 extent.unit  -- 0x22 compression_unit
     ∷ U32 0  -- 0x24 reserved
     ∷ U64 (allocated_size_of shape extent)  -- 0x28 allocated_size
-    ∷ U64 (size_of shape extent.size)  -- 0x30 data_size
-    ∷ U64 (size_of shape extent.initialised)  -- 0x38 initialized_size
+    ∷ U64 (size_bytes shape extent.size)  -- 0x30 data_size
+    ∷ U64 (size_bytes shape extent.initialised)  -- 0x38 initialized_size
     ∷ [])
 
 -- an attribute in clusters

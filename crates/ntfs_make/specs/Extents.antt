@@ -48,10 +48,10 @@ unfoldable pub pairs_of : Shape → List PlannedRun → List ℕ
 pairs_of shape planned = canon (vcns (extent_runs shape planned))
 
 -- a number of bytes
-unfoldable pub size_of : Shape → Size → ℕ
-size_of shape (a_size.Exact count) = count
-size_of shape (a_size.Clusters count) = count * shape.cluster
-size_of shape (a_size.ClusterAnd count) = shape.cluster + count
-size_of shape (a_size.InArea number) = (area_at shape number).length * shape.cluster
-size_of shape a_size.Bitmap = bitmap_size shape.clusters
-size_of shape a_size.Volume = shape.clusters * shape.cluster
+unfoldable pub size_bytes : Shape → Size → ℕ
+size_bytes shape (a_size.Exact count) = count
+size_bytes shape (a_size.Clusters count) = count * shape.cluster
+size_bytes shape (a_size.ClusterAnd count) = shape.cluster + count
+size_bytes shape (a_size.InArea number) = (area_at shape number).length * shape.cluster
+size_bytes shape a_size.Bitmap = bitmap_size shape.clusters
+size_bytes shape a_size.Volume = shape.clusters * shape.cluster

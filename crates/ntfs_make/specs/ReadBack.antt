@@ -14,7 +14,7 @@ use Rattle.ntfs_make.specs.declared.table.Extent.{Extent}
 use Rattle.ntfs_make.specs.declared.table.ListEntry.{ListEntry}
 use Rattle.ntfs_make.specs.Areas.{area_at}
 use Rattle.ntfs_make.specs.Attributes.{allocated_size_of, extent_lowest, extent_next, listed_lowest, pairs_place, tail_bytes}
-use Rattle.ntfs_make.specs.Extents.{size_of}
+use Rattle.ntfs_make.specs.Extents.{size_bytes}
 use Rattle.ntfs_make.specs.Fields.{utf16_bytes, with_padding}
 use Rattle.ntfs_make.specs.Index.{file_name_bytes, reference, root_entries}
 use Rattle.ntfs_make.specs.Records.{base_reference, link_count}
@@ -117,8 +117,8 @@ pub record FitsExtent (shape : Shape) (kind : ℕ) (name : List ℕ) (instance :
   pub place_fits : pairs_place shape name extent < 2 ^ 16
   pub unit_fits : extent.unit < 2 ^ 16
   pub allocated_fits : allocated_size_of shape extent < 2 ^ 64
-  pub size_fits : size_of shape extent.size < 2 ^ 64
-  pub initialised_fits : size_of shape extent.initialised < 2 ^ 64
+  pub size_fits : size_bytes shape extent.size < 2 ^ 64
+  pub initialised_fits : size_bytes shape extent.initialised < 2 ^ 64
 
 -- an attribute in clusters
 pub record IsExtentOf (shape : Shape) (kind : ℕ) (name : List ℕ) (instance : ℕ) (extent : Extent) (bytes : List ℕ)
@@ -134,8 +134,8 @@ pub record IsExtentOf (shape : Shape) (kind : ℕ) (name : List ℕ) (instance :
   pub highest : recorded.highest_at 0 bytes ≡ (extent_next shape extent + (2 ^ 64 - 1)) % 2 ^ 64
   pub pairs_offset : recorded.pairs_offset_at 0 bytes ≡ pairs_place shape name extent
   pub allocated : recorded.allocated_at 0 bytes ≡ allocated_size_of shape extent
-  pub size : recorded.size_at 0 bytes ≡ size_of shape extent.size
-  pub initialised : recorded.valid_at 0 bytes ≡ size_of shape extent.initialised
+  pub size : recorded.size_at 0 bytes ≡ size_bytes shape extent.size
+  pub initialised : recorded.valid_at 0 bytes ≡ size_bytes shape extent.initialised
 
 -- ---- entries of attribute lists
 

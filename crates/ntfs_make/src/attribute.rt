@@ -4,7 +4,7 @@ ghost use Rattle.std.specs.Prelude.{◌≡◌, ◌++◌, OnOk, IfOk, map};
 ghost use Rattle.ntfs_make.specs.Table.{attribute_value, body_value};
 ghost use Rattle.ntfs_make.specs.Attributes as spec;
 
-use crate::extent::{put_pairs, run_of, size_of, vcn_count};
+use crate::extent::{put_pairs, run_of, size_bytes, vcn_count};
 use crate::field::{Field, pad, put_fields, put_letters, put_zeros};
 use crate::index::{put_name, put_root, reference};
 use crate::layout::Layout;
@@ -115,7 +115,7 @@ fn put_compressed_size(
     ensures { OnOk result (out.new.items ≡ out.old.items ++ spec.compressed_size_bytes layout.now compressed_size) }
 {
     match compressed_size {
-        Some(size) => put_fields(out, &[Field::U64(size_of(layout, size))]),
+        Some(size) => put_fields(out, &[Field::U64(size_bytes(layout, size))]),
         None => Ok(()),
     }
 }
@@ -178,8 +178,8 @@ fn put_sizes(
             Field::U16(u64::from(extent.unit)), // 0x22 compression_unit
             Field::U32(0), // 0x24 reserved
             Field::U64(allocated_size_of(layout, extent)), // 0x28 allocated_size
-            Field::U64(size_of(layout, extent.size)), // 0x30 data_size
-            Field::U64(size_of(layout, extent.initialised)), // 0x38 initialized_size
+            Field::U64(size_bytes(layout, extent.size)), // 0x30 data_size
+            Field::U64(size_bytes(layout, extent.initialised)), // 0x38 initialized_size
         ],
     )
 }

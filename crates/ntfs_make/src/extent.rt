@@ -103,9 +103,9 @@ pub(crate) fn vcn_count(layout: &Layout, extent: &Extent) -> u64
 }
 
 // A number of bytes.
-#[tactic(auto, unfolding(crate::specs::Extents::size_of))]
-pub(crate) fn size_of(layout: &Layout, size: Size) -> u64
-    ensures { result ≡ spec.size_of layout.now size }
+#[tactic(auto, unfolding(crate::specs::Extents::size_bytes))]
+pub(crate) fn size_bytes(layout: &Layout, size: Size) -> u64
+    ensures { result ≡ spec.size_bytes layout.now size }
 {
     let shape = layout.shape();
     match size {

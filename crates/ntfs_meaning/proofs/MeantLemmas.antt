@@ -19,7 +19,7 @@ use Rattle.ntfs_record.proofs.SlotLemmas.{map_slots-map_slots}
 use Rattle.ntfs_record.specs.FileRecord.{Attribute, Face, Head, Laid}
 use Rattle.ntfs_record.specs.Slots.{Slot, map_slots, on_payload}
 use Rattle.ntfs_rules.proofs.PairingLemmas.{all-both, count-map}
-use Rattle.ntfs_rules.specs.Directories.{root_of, walk_by, walk_found, walk_of}
+use Rattle.ntfs_rules.specs.Directories.{root_of, walk_by, gathered_walk, walk_of}
 use Rattle.ntfs_rules.specs.VolumeData.{Records, VolumeData, bytes_found, content_in, contents, listings, listings_of}
 use Rattle.ntfs_runs.specs.Cells.{Cells}
 use Rattle.ntfs_volume.proofs.ExtentsLemmas.{members, of-base, of-type}
@@ -260,8 +260,8 @@ walk-by g h d (Ok root) blocks cluster block =
     ∙ ap (λ b. walk_in d (listing (walk_allocation h.cluster b root blocks))) block
 walk-by g h d (Err fault) blocks cluster block = refl
 
-walk-same : (g h : Geometry) (d : ℕ) (root blocks : Result (Gathered (List ℕ)) VolumeFault) → g.cluster ≡ h.cluster → g.block ≡ h.block → walk_found g d root blocks ≡ walk_found h d root blocks
-unfolding walk_found
+walk-same : (g h : Geometry) (d : ℕ) (root blocks : Result (Gathered (List ℕ)) VolumeFault) → g.cluster ≡ h.cluster → g.block ≡ h.block → gathered_walk g d root blocks ≡ gathered_walk h d root blocks
+unfolding gathered_walk
 walk-same g h d root blocks cluster block =
     ap (λ c. walk_by g d (root_of d root blocks) (bytes_found c blocks)) cluster
     ∙ walk-by g h d (root_of d root blocks) (bytes_found h.cluster blocks) cluster block
@@ -270,6 +270,6 @@ pub same-walks : (v w : VolumeData) (d : ℕ) → v.geometry.cluster ≡ w.geome
     → walk_of v.geometry (listings v) (contents v) d ≡ walk_of w.geometry (listings w) (contents w) d
 unfolding walk_of
 same-walks v w d cluster block same =
-    ap (λ (root : Result (Gathered (List ℕ)) VolumeFault). walk_found v.geometry d root (content_in v d allocation_kind index_name)) (same-streams v w d root_kind index_name cluster same (root-role d))
-    ∙ ap (walk_found v.geometry d (content_in w d root_kind index_name)) (same-streams v w d allocation_kind index_name cluster same (allocation-role d))
+    ap (λ (root : Result (Gathered (List ℕ)) VolumeFault). gathered_walk v.geometry d root (content_in v d allocation_kind index_name)) (same-streams v w d root_kind index_name cluster same (root-role d))
+    ∙ ap (gathered_walk v.geometry d (content_in w d root_kind index_name)) (same-streams v w d allocation_kind index_name cluster same (allocation-role d))
     ∙ walk-same v.geometry w.geometry d (content_in w d root_kind index_name) (content_in w d allocation_kind index_name) cluster block

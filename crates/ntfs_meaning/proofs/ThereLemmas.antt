@@ -14,8 +14,8 @@ use Rattle.ntfs_record.specs.FileRecord.{Attribute, Head}
 use Rattle.ntfs_record.specs.Slots.{Slot, first_not, map_slot, map_slots, on_payload}
 use Rattle.ntfs_rules.proofs.ClearLemmas.{all-hold, passed}
 use Rattle.ntfs_rules.specs.Accepts.{Broken, Line, fault_of, first_broken, first_rules, further_rules, or_broken}
-use Rattle.ntfs_rules.specs.Directories.{c13, first_disordered, has_directory_flag, is_directory, is_ordered, names_in, are_ascending, are_distinct, root_of, up_case_units, walk_by, walk_found, walk_of}
-use Rattle.ntfs_rules.specs.FixedRecords.{bad_name, c15, has_no_list, is_bitmap, passes, row_0, row_1, row_2, row_3, row_6, row_7, row_8, rows, volume_information_kind}
+use Rattle.ntfs_rules.specs.Directories.{c13, first_disordered, has_directory_flag, is_directory, is_ordered, names_in, are_ascending, are_distinct_names, root_of, up_case_units, walk_by, gathered_walk, walk_of}
+use Rattle.ntfs_rules.specs.FixedRecords.{bad_name, c15, has_no_list, is_bitmap, passes, row_0, row_1, row_2, row_3, row_6, row_7, row_8, fixed_rows, volume_information_kind}
 use Rattle.ntfs_rules.specs.Records.{c4}
 use Rattle.ntfs_rules.specs.VolumeData.{Records, VolumeData, bytes_found, contents, listings, numbers, stream_in, without_clusters}
 use Rattle.ntfs_volume.proofs.AnswerLemmas.{and-right, bind-ok}
@@ -55,9 +55,9 @@ c15-clear v is = (lines-clear v is).1.1.1.1.1.1.1.1.1.1.1.0
 
 -- ---- records with fixed numbers
 
-rows-hold : (v : VolumeData) → fault_of v ≡ None → AllByRecursion (λ (c : Check ℕ). c.holds ≡ true) (rows v.geometry (map (λ (k : Cluster). k.number) v.table) (listings v) (numbers v))
+rows-hold : (v : VolumeData) → fault_of v ≡ None → AllByRecursion (λ (c : Check ℕ). c.holds ≡ true) (fixed_rows v.geometry (map (λ (k : Cluster). k.number) v.table) (listings v) (numbers v))
 unfolding c15
-rows-hold v is = all-hold (rows v.geometry (map (λ (k : Cluster). k.number) v.table) (listings v) (numbers v)) (c15-clear v is)
+rows-hold v is = all-hold (fixed_rows v.geometry (map (λ (k : Cluster). k.number) v.table) (listings v) (numbers v)) (c15-clear v is)
 
 -- what passes a test is there
 there : {X : Type 0} (test : Gathered X → Bool) (found : Result (Gathered X) VolumeFault) → passes test found ≡ true → (s : Gathered X) × (found ≡ Ok s)
@@ -172,7 +172,7 @@ no-fault (Some fault) rest is = absurd cc
 
 walk-whole : (table : List ℕ) (walk : DirectoryWalk) → is_ordered table walk ≡ true → walk.fault ≡ None
 unfolding is_ordered
-walk-whole table walk is = no-fault walk.fault (are_ascending table (names_in walk.entries) && are_distinct (names_in walk.entries)) is
+walk-whole table walk is = no-fault walk.fault (are_ascending table (names_in walk.entries) && are_distinct_names (names_in walk.entries)) is
 
 -- a whole walk has a root
 root-there : (g : Geometry) (d : ℕ) (root : Result (List ℕ) VolumeFault) (blocks : List ℕ) → (walk_by g d root blocks).fault ≡ None → (value : List ℕ) × (root ≡ Ok value)
@@ -199,8 +199,8 @@ value-there d (Err fault) value is = absurd (refused fault is)
     refused volume.WriteFault is = cc
     refused volume.NoMemory is = cc
 
-walked-there : (g : Geometry) (d : ℕ) (root blocks : Result (Gathered (List ℕ)) VolumeFault) → (walk_found g d root blocks).fault ≡ None → (s : Gathered (List ℕ)) × (root ≡ Ok s) × (s.stream.is_resident ≡ true)
-unfolding walk_found root_of
+walked-there : (g : Geometry) (d : ℕ) (root blocks : Result (Gathered (List ℕ)) VolumeFault) → (gathered_walk g d root blocks).fault ≡ None → (s : Gathered (List ℕ)) × (root ≡ Ok s) × (s.stream.is_resident ≡ true)
+unfolding gathered_walk root_of
 walked-there g d root blocks is =
     let found = root-there g d (root_of d root blocks) (bytes_found g.cluster blocks) is in
     let value = bind-ok (index_root_value d (without_clusters root)) (λ value. allocation_found (without_clusters blocks) >>= (λ _. Ok value)) found.0 found.1 in

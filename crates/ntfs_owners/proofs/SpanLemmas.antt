@@ -11,7 +11,7 @@ use Rattle.ntfs_runs.proofs.ClustersLemmas.{next-run}
 use Rattle.ntfs_owners.specs.Held.{Held, held_of}
 use Rattle.ntfs_owners.specs.declared.holding.Holding.{Holding}
 use Rattle.ntfs_owners.specs.OwnerLines.{cluster_line, held_cluster, held_clusters, row_line, runs_cluster}
-use Rattle.ntfs_owners.specs.Sweep.{Span, end_of, first_of, held_spans, line_in, no_span, row_spans, rows_cluster, run_spans, span_line, span_lines, swept_lines, upto}
+use Rattle.ntfs_owners.specs.Sweep.{Span, span_end, span_first, held_spans, line_in, no_span, row_spans, rows_cluster, run_spans, span_line, span_lines, swept_lines, upto}
 use Rattle.ntfs_owners.proofs.SweepLemmas.{has_row, leb-above, ltb-past}
 
 -- ---- rows are those of the runs
@@ -132,11 +132,11 @@ lines-one : (k : ℕ) (span : Span) → span_lines k (span ∷ []) ≡ span_line
 unfolding span_lines
 lines-one k span = append-nil (span_line k span)
 
-lines-upto : (k n : ℕ) (spans : List Span) → n ≤ length spans → span_lines k (take n spans) ≡ rows_cluster k spans (filter (has_row (first_of spans) (end_of spans) k) (upto n))
+lines-upto : (k n : ℕ) (spans : List Span) → n ≤ length spans → span_lines k (take n spans) ≡ rows_cluster k spans (filter (has_row (span_first spans) (span_end spans) k) (upto n))
 unfolding span_lines rows_cluster
 lines-upto k zero spans le = refl
 lines-upto k (suc n) spans le =
-    let has = has_row (first_of spans) (end_of spans) k in
+    let has = has_row (span_first spans) (span_end spans) k in
     let next : n + 1 ≡ suc n = omega arith in
     ap (λ m. span_lines k (take m spans)) (sym next)
     ∙ ap (span_lines k) (take_more spans n no_span (omega (arith, le)))
@@ -146,7 +146,7 @@ lines-upto k (suc n) spans le =
     ∙ sym (ap (rows_cluster k spans) (filter-append has (upto n) (n ∷ [])))
 
 -- the lines of a cluster are those of the rows that have it
-pub lines-rows : (k : ℕ) (spans : List Span) → span_lines k spans ≡ rows_cluster k spans (filter (has_row (first_of spans) (end_of spans) k) (upto (length spans)))
+pub lines-rows : (k : ℕ) (spans : List Span) → span_lines k spans ≡ rows_cluster k spans (filter (has_row (span_first spans) (span_end spans) k) (upto (length spans)))
 lines-rows k spans = ap (span_lines k) (sym (take_all (length spans) spans (omega arith))) ∙ lines-upto k (length spans) spans (omega arith)
 
 -- ---- rows that are added

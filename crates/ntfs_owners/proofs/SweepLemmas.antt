@@ -2,7 +2,7 @@
 use Rattle.std.proofs.Common.{◌≡◌, ◌+◌, ◌<◌, ◌≤◌, ◌&&◌, ℕ, zero, suc, Bool, true, false, cond, ltb, leb, eqb, List, [], ◌∷◌, ◌++◌, get_or, refl, sym, ap, ap₂, ◌∙◌, arith}
 use Rattle.std.specs.List.{All, filter, sum_by}
 use Rattle.std.specs.List.Sorted.{IsNonDecreasing, IsNonDecreasingBy, IsPermutation}
-use Rattle.ntfs_owners.specs.Sweep.{IsSwept, only_if, upto}
+use Rattle.ntfs_owners.specs.Sweep.{IsSwept, number_where, upto}
 use Rattle.std.proofs.lemmas.Bool.{eqb-true, eqb-false, lt-ltb, ltb-true, ltb-false, le-leb, leb-true}
 use Rattle.std.proofs.lemmas.List.Elements.{All-append, All-cons, All-filter, All-head, All-nil, All-tail, All-weaker}
 use Rattle.std.proofs.lemmas.List.Sorted.{IsNonDecreasingBy-short, sum_by-IsPermutation, All-permutation}
@@ -156,7 +156,7 @@ pub swept-active : (first end : ℕ → ℕ) (m at : ℕ) (active : List ℕ) (w
 swept-active first end m at active waiting swept later up =
     same-sorted active (filter (has_row first end at) (upto m)) (ascends-from active up) (ascends-filter (has_row first end at) (upto m) (upto-ascends m)) sums
   where
-    both : (i : ℕ) (f : ℕ) (a b : Bool) → only_if b (only_if a f) ≡ only_if (a && b) f
+    both : (i : ℕ) (f : ℕ) (a b : Bool) → number_where b (number_where a f) ≡ number_where (a && b) f
     both i f true true = refl
     both i f true false = refl
     both i f false true = refl
@@ -164,11 +164,11 @@ swept-active first end m at active waiting swept later up =
 
     sums : (f : ℕ → ℕ) → sum_by f active ≡ sum_by f (filter (has_row first end at) (upto m))
     sums f =
-        let g : ℕ → ℕ = λ i. only_if (leb (first i) at) (f i) in
-        let here = sum-agree f g active (All-weaker (λ i. (first i ≤ at) × (i < m)) (λ i. f i ≡ g i) (λ i b. sym (ap (λ t. only_if t (f i)) (le-leb (first i) at b.0))) active swept.begun) in
-        let none = sum-none (λ (s : ℕ × ℕ). g s.1) waiting (all-both (λ (s : ℕ × ℕ). (s.0 ≡ first s.1) × (s.0 < end s.1) × (s.1 < m)) (λ s. at < s.0) (λ s. g s.1 ≡ 0) waiting (λ s t l. let e = t.0 in ap (λ b. only_if b (f s.1)) (leb-above (first s.1) at (omega (arith, l, e)))) swept.tied later) in
+        let g : ℕ → ℕ = λ i. number_where (leb (first i) at) (f i) in
+        let here = sum-agree f g active (All-weaker (λ i. (first i ≤ at) × (i < m)) (λ i. f i ≡ g i) (λ i b. sym (ap (λ t. number_where t (f i)) (le-leb (first i) at b.0))) active swept.begun) in
+        let none = sum-none (λ (s : ℕ × ℕ). g s.1) waiting (all-both (λ (s : ℕ × ℕ). (s.0 ≡ first s.1) × (s.0 < end s.1) × (s.1 < m)) (λ s. at < s.0) (λ s. g s.1 ≡ 0) waiting (λ s t l. let e = t.0 in ap (λ b. number_where b (f s.1)) (leb-above (first s.1) at (omega (arith, l, e)))) swept.tied later) in
         let law = swept.law g in
-        let parts = sum-agree (λ i. only_if (ltb at (end i)) (g i)) (λ i. only_if (has_row first end at i) (f i)) (upto m) (all-each (λ i. only_if (ltb at (end i)) (g i) ≡ only_if (has_row first end at i) (f i)) (upto m) (λ i. both i (f i) (leb (first i) at) (ltb at (end i)))) in
+        let parts = sum-agree (λ i. number_where (ltb at (end i)) (g i)) (λ i. number_where (has_row first end at i) (f i)) (upto m) (all-each (λ i. number_where (ltb at (end i)) (g i) ≡ number_where (has_row first end at i) (f i)) (upto m) (λ i. both i (f i) (leb (first i) at) (ltb at (end i)))) in
         let kept = sum-filter (has_row first end at) f (upto m) in
         omega (arith, here, none, law, parts, kept)
 
@@ -183,18 +183,18 @@ swept-next first end m at active waiting swept later = record {
   sorted = swept.sorted;
 }
   where
-    both : (f : ℕ) (p q : Bool) → (q ≡ true → p ≡ true) → only_if p (only_if q f) ≡ only_if q f
+    both : (f : ℕ) (p q : Bool) → (q ≡ true → p ≡ true) → number_where p (number_where q f) ≡ number_where q f
     both f true q is = refl
     both f false false is = refl
     both f false true is = let e = is refl in absurd cc
 
-    law : (f : ℕ → ℕ) → sum_by f (filter (λ i. ltb (at + 1) (end i)) active) + sum_by (λ (s : ℕ × ℕ). f s.1) waiting ≡ sum_by (λ i. only_if (ltb (at + 1) (end i)) (f i)) (upto m)
+    law : (f : ℕ → ℕ) → sum_by f (filter (λ i. ltb (at + 1) (end i)) active) + sum_by (λ (s : ℕ × ℕ). f s.1) waiting ≡ sum_by (λ i. number_where (ltb (at + 1) (end i)) (f i)) (upto m)
     law f =
-        let g : ℕ → ℕ = λ i. only_if (ltb (at + 1) (end i)) (f i) in
+        let g : ℕ → ℕ = λ i. number_where (ltb (at + 1) (end i)) (f i) in
         let kept = sum-filter (λ i. ltb (at + 1) (end i)) f active in
-        let all = sum-agree (λ (s : ℕ × ℕ). f s.1) (λ (s : ℕ × ℕ). g s.1) waiting (all-both (λ (s : ℕ × ℕ). (s.0 ≡ first s.1) × (s.0 < end s.1) × (s.1 < m)) (λ s. at < s.0) (λ s. f s.1 ≡ g s.1) waiting (λ s t l. let e = t.1 in ap (λ b. only_if b (f s.1)) (sym (lt-ltb (at + 1) (end s.1) (omega (arith, l, e))))) swept.tied later) in
+        let all = sum-agree (λ (s : ℕ × ℕ). f s.1) (λ (s : ℕ × ℕ). g s.1) waiting (all-both (λ (s : ℕ × ℕ). (s.0 ≡ first s.1) × (s.0 < end s.1) × (s.1 < m)) (λ s. at < s.0) (λ s. f s.1 ≡ g s.1) waiting (λ s t l. let e = t.1 in ap (λ b. number_where b (f s.1)) (sym (lt-ltb (at + 1) (end s.1) (omega (arith, l, e))))) swept.tied later) in
         let old = swept.law g in
-        let same = sum-agree (λ i. only_if (ltb at (end i)) (g i)) g (upto m) (all-each (λ i. only_if (ltb at (end i)) (g i) ≡ g i) (upto m) (λ i. both (f i) (ltb at (end i)) (ltb (at + 1) (end i)) (λ is. lt-ltb at (end i) (let lt = ltb-true (at + 1) (end i) is in omega (arith, lt))))) in
+        let same = sum-agree (λ i. number_where (ltb at (end i)) (g i)) g (upto m) (all-each (λ i. number_where (ltb at (end i)) (g i) ≡ g i) (upto m) (λ i. both (f i) (ltb at (end i)) (ltb (at + 1) (end i)) (λ is. lt-ltb at (end i) (let lt = ltb-true (at + 1) (end i) is in omega (arith, lt))))) in
         omega (arith, kept, all, old, same)
 
 -- where no row is active, none has a cluster before the next one begins
@@ -207,17 +207,17 @@ swept-jump first end m at to waiting le swept later = record {
   sorted = swept.sorted;
 }
   where
-    both : (f : ℕ) (p q : Bool) → (q ≡ true → p ≡ true) → only_if p (only_if q f) ≡ only_if q f
+    both : (f : ℕ) (p q : Bool) → (q ≡ true → p ≡ true) → number_where p (number_where q f) ≡ number_where q f
     both f true q is = refl
     both f false false is = refl
     both f false true is = let e = is refl in absurd cc
 
-    law : (f : ℕ → ℕ) → sum_by f [] + sum_by (λ (s : ℕ × ℕ). f s.1) waiting ≡ sum_by (λ i. only_if (ltb to (end i)) (f i)) (upto m)
+    law : (f : ℕ → ℕ) → sum_by f [] + sum_by (λ (s : ℕ × ℕ). f s.1) waiting ≡ sum_by (λ i. number_where (ltb to (end i)) (f i)) (upto m)
     law f =
-        let g : ℕ → ℕ = λ i. only_if (ltb to (end i)) (f i) in
-        let all = sum-agree (λ (s : ℕ × ℕ). f s.1) (λ (s : ℕ × ℕ). g s.1) waiting (all-both (λ (s : ℕ × ℕ). (s.0 ≡ first s.1) × (s.0 < end s.1) × (s.1 < m)) (λ s. to ≤ s.0) (λ s. f s.1 ≡ g s.1) waiting (λ s t l. let e = t.1 in ap (λ b. only_if b (f s.1)) (sym (lt-ltb to (end s.1) (omega (arith, l, e))))) swept.tied later) in
+        let g : ℕ → ℕ = λ i. number_where (ltb to (end i)) (f i) in
+        let all = sum-agree (λ (s : ℕ × ℕ). f s.1) (λ (s : ℕ × ℕ). g s.1) waiting (all-both (λ (s : ℕ × ℕ). (s.0 ≡ first s.1) × (s.0 < end s.1) × (s.1 < m)) (λ s. to ≤ s.0) (λ s. f s.1 ≡ g s.1) waiting (λ s t l. let e = t.1 in ap (λ b. number_where b (f s.1)) (sym (lt-ltb to (end s.1) (omega (arith, l, e))))) swept.tied later) in
         let old = swept.law g in
-        let same = sum-agree (λ i. only_if (ltb at (end i)) (g i)) g (upto m) (all-each (λ i. only_if (ltb at (end i)) (g i) ≡ g i) (upto m) (λ i. both (f i) (ltb at (end i)) (ltb to (end i)) (λ is. lt-ltb at (end i) (let lt = ltb-true to (end i) is in omega (arith, lt, le))))) in
+        let same = sum-agree (λ i. number_where (ltb at (end i)) (g i)) g (upto m) (all-each (λ i. number_where (ltb at (end i)) (g i) ≡ g i) (upto m) (λ i. both (f i) (ltb at (end i)) (ltb to (end i)) (λ is. lt-ltb at (end i) (let lt = ltb-true to (end i) is in omega (arith, lt, le))))) in
         omega (arith, all, old, same)
 
 none-of : (xs : List ℕ) → sum_by (λ i. 1) xs ≡ 0 → xs ≡ []
@@ -236,7 +236,7 @@ pub swept-start : (first end : ℕ → ℕ) (m at : ℕ) (waiting : List (ℕ ×
 swept-start first end m at waiting sums ends later tied sorted = record {
   law = λ f.
       let s = sums f in
-      let all = sum-agree f (λ i. only_if (ltb at (end i)) (f i)) (upto m) (All-weaker (λ i. i < m) (λ i. f i ≡ only_if (ltb at (end i)) (f i)) (λ i lt. ap (λ b. only_if b (f i)) (sym (lt-ltb at (end i) (ends i lt)))) (upto m) (upto-below m)) in
+      let all = sum-agree f (λ i. number_where (ltb at (end i)) (f i)) (upto m) (All-weaker (λ i. i < m) (λ i. f i ≡ number_where (ltb at (end i)) (f i)) (λ i lt. ap (λ b. number_where b (f i)) (sym (lt-ltb at (end i) (ends i lt)))) (upto m) (upto-below m)) in
       omega (arith, s, all);
   begun = All-nil (λ i. (first i ≤ at) × (i < m));
   later = later;

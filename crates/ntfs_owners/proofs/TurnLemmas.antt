@@ -6,7 +6,7 @@ use Rattle.std.proofs.lemmas.Bool.{eqb-false, eqb-true, leb-true, ltb-false, ltb
 use Rattle.std.proofs.lemmas.Grind.{common_steps}
 use Rattle.std.proofs.lemmas.List.{drop_more}
 use Rattle.std.proofs.lemmas.List.Elements.{All-head, All-nil, All-same, All-weaker, filter_passes}
-use Rattle.ntfs_owners.specs.Sweep.{HasCluster, IsSwept, Span, due_row, end_of, first_of, next_cluster, no_span, rows_cluster, span_lines, swept_lines, upto}
+use Rattle.ntfs_owners.specs.Sweep.{HasCluster, IsSwept, Span, due_row, span_end, span_first, next_cluster, no_span, rows_cluster, span_lines, swept_lines, upto}
 use Rattle.ntfs_owners.proofs.SpanLemmas.{lines-rows}
 use Rattle.ntfs_owners.proofs.SweepLemmas.{has_row, later-head, swept-active, swept-gap, swept-jump}
 
@@ -17,27 +17,27 @@ drop_past xs i past = grind (arith, common_steps)
 
 -- what is known of it
 pub record IsNext (spans : List Span) (end at cluster : ℕ) (active : List ℕ) (waiting : List (ℕ × ℕ)) : Type 0 where
-  pub swept : IsSwept (first_of spans) (end_of spans) (length spans) cluster active waiting
+  pub swept : IsSwept (span_first spans) (span_end spans) (length spans) cluster active waiting
   pub behind : at ≤ cluster
   pub below : cluster < end
   pub gap : (k : ℕ) → at ≤ k → k < cluster → span_lines k spans ≡ []
 
-no-lines : (k : ℕ) (spans : List Span) → filter (has_row (first_of spans) (end_of spans) k) (upto (length spans)) ≡ [] → span_lines k spans ≡ []
+no-lines : (k : ℕ) (spans : List Span) → filter (has_row (span_first spans) (span_end spans) k) (upto (length spans)) ≡ [] → span_lines k spans ≡ []
 unfolding rows_cluster
 no-lines k spans none = lines-rows k spans ∙ ap (rows_cluster k spans) none
 
 same-some : {x y : ℕ} → Some x ≡ Some y → x ≡ y
 same-some is = cc
 
-pub next-is : (spans : List Span) (end at cluster : ℕ) (active : List ℕ) (waiting : List (ℕ × ℕ)) → All (λ (s : Span). s.end ≤ end) spans → All (λ i. at < end_of spans i) active
-    → IsSwept (first_of spans) (end_of spans) (length spans) at active waiting → next_cluster at active waiting ≡ Some cluster → IsNext spans end at cluster active waiting
+pub next-is : (spans : List Span) (end at cluster : ℕ) (active : List ℕ) (waiting : List (ℕ × ℕ)) → All (λ (s : Span). s.end ≤ end) spans → All (λ i. at < span_end spans i) active
+    → IsSwept (span_first spans) (span_end spans) (length spans) at active waiting → next_cluster at active waiting ≡ Some cluster → IsNext spans end at cluster active waiting
 next-is spans end at cluster (x ∷ active) waiting ends going swept is =
     let same = same-some is in
-    let lt = All-head (λ i. at < end_of spans i) x active going in
-    let there = (All-head (λ i. (first_of spans i ≤ at) × (i < length spans)) x active swept.begun).1 in
+    let lt = All-head (λ i. at < span_end spans i) x active going in
+    let there = (All-head (λ i. (span_first spans i ≤ at) × (i < length spans)) x active swept.begun).1 in
     let le = ends x no_span there in
     record {
-      swept = subst (λ k. IsSwept (first_of spans) (end_of spans) (length spans) k (x ∷ active) waiting) same swept;
+      swept = subst (λ k. IsSwept (span_first spans) (span_end spans) (length spans) k (x ∷ active) waiting) same swept;
       behind = omega (arith, same);
       below = omega (arith, same, lt, le);
       gap = λ k low high. absurd (omega (arith, same, low, high));
@@ -46,15 +46,15 @@ next-is spans end at cluster [] [] ends going swept is = absurd cc
 next-is spans end at cluster [] (s ∷ waiting) ends going swept is =
     let same = same-some is in
     let low = All-head (λ (s : ℕ × ℕ). at ≤ s.0) s waiting swept.later in
-    let tied = All-head (λ (s : ℕ × ℕ). (s.0 ≡ first_of spans s.1) × (s.0 < end_of spans s.1) × (s.1 < length spans)) s waiting swept.tied in
+    let tied = All-head (λ (s : ℕ × ℕ). (s.0 ≡ span_first spans s.1) × (s.0 < span_end spans s.1) × (s.1 < length spans)) s waiting swept.tied in
     let le = ends s.1 no_span tied.2 in
     let lt = tied.1 in
     let at_least : All (λ (s : ℕ × ℕ). cluster ≤ s.0) (s ∷ waiting) = λ k d below. let up = swept.sorted 0 k d (omega arith) below in omega (arith, up, same) in
     record {
-      swept = swept-jump (first_of spans) (end_of spans) (length spans) at cluster (s ∷ waiting) (omega (arith, same, low)) swept at_least;
+      swept = swept-jump (span_first spans) (span_end spans) (length spans) at cluster (s ∷ waiting) (omega (arith, same, low)) swept at_least;
       behind = omega (arith, same, low);
       below = omega (arith, same, lt, le);
-      gap = λ k from high. no-lines k spans (swept-gap (first_of spans) (end_of spans) (length spans) at k (s ∷ waiting) from swept
+      gap = λ k from high. no-lines k spans (swept-gap (span_first spans) (span_end spans) (length spans) at k (s ∷ waiting) from swept
           (All-weaker (λ (s : ℕ × ℕ). cluster ≤ s.0) (λ s. k < s.0) (λ s up. omega (arith, up, high)) (s ∷ waiting) at_least));
     }
 
@@ -89,12 +89,12 @@ no-more spans at zero none = refl
 no-more spans at (suc count) none = ap₂ (λ a b. a ++ b) (none at (omega arith)) (no-more spans (suc at) count (λ k low. none k (omega (arith, low))))
 
 -- no row is active, and none waits
-pub end-lines : (spans : List Span) (at count : ℕ) (active : List ℕ) (waiting : List (ℕ × ℕ)) → IsSwept (first_of spans) (end_of spans) (length spans) at active waiting → next_cluster at active waiting ≡ None
+pub end-lines : (spans : List Span) (at count : ℕ) (active : List ℕ) (waiting : List (ℕ × ℕ)) → IsSwept (span_first spans) (span_end spans) (length spans) at active waiting → next_cluster at active waiting ≡ None
     → swept_lines spans at count ≡ []
 end-lines spans at count (x ∷ active) waiting swept is = absurd cc
 end-lines spans at count [] (s ∷ waiting) swept is = absurd cc
 end-lines spans at count [] [] swept is =
-    no-more spans at count (λ k low. no-lines k spans (swept-gap (first_of spans) (end_of spans) (length spans) at k [] low swept (All-nil (λ (s : ℕ × ℕ). k < s.0))))
+    no-more spans at count (λ k low. no-lines k spans (swept-gap (span_first spans) (span_end spans) (length spans) at k [] low swept (All-nil (λ (s : ℕ × ℕ). k < s.0))))
 
 -- ---- the rows that begin
 
@@ -139,28 +139,28 @@ and-right : (a b : Bool) → (a && b) ≡ true → b ≡ true
 and-right true b is = is
 and-right false b is = absurd cc
 
-pub active-lines : (spans : List Span) (at : ℕ) (active : List ℕ) (waiting : List (ℕ × ℕ)) → IsSwept (first_of spans) (end_of spans) (length spans) at active waiting → IsNonDecreasing active
+pub active-lines : (spans : List Span) (at : ℕ) (active : List ℕ) (waiting : List (ℕ × ℕ)) → IsSwept (span_first spans) (span_end spans) (length spans) at active waiting → IsNonDecreasing active
     → All (λ (s : ℕ × ℕ). at < s.0) waiting → span_lines at spans ≡ rows_cluster at spans active
 active-lines spans at active waiting swept order later =
-    lines-rows at spans ∙ ap (rows_cluster at spans) (sym (swept-active (first_of spans) (end_of spans) (length spans) at active waiting swept later order))
+    lines-rows at spans ∙ ap (rows_cluster at spans) (sym (swept-active (span_first spans) (span_end spans) (length spans) at active waiting swept later order))
 
-pub active-have : (spans : List Span) (at : ℕ) (active : List ℕ) (waiting : List (ℕ × ℕ)) → IsSwept (first_of spans) (end_of spans) (length spans) at active waiting → IsNonDecreasing active
+pub active-have : (spans : List Span) (at : ℕ) (active : List ℕ) (waiting : List (ℕ × ℕ)) → IsSwept (span_first spans) (span_end spans) (length spans) at active waiting → IsNonDecreasing active
     → All (λ (s : ℕ × ℕ). at < s.0) waiting → All (HasCluster spans at) active
 active-have spans at active waiting swept order later =
-    let has = has_row (first_of spans) (end_of spans) at in
-    let passes = All-same (λ i. has i ≡ true) active (filter has (upto (length spans))) (swept-active (first_of spans) (end_of spans) (length spans) at active waiting swept later order) (filter_passes has (upto (length spans))) in
+    let has = has_row (span_first spans) (span_end spans) at in
+    let passes = All-same (λ i. has i ≡ true) active (filter has (upto (length spans))) (swept-active (span_first spans) (span_end spans) (length spans) at active waiting swept later order) (filter_passes has (upto (length spans))) in
     λ k d below.
     let is = passes k d below in
     let i = get_or active k d in
     record {
       there = (swept.begun k d below).1;
-      first = leb-true (first_of spans i) at (and-left (leb (first_of spans i) at) (ltb at (end_of spans i)) is);
-      below = ltb-true at (end_of spans i) (and-right (leb (first_of spans i) at) (ltb at (end_of spans i)) is);
+      first = leb-true (span_first spans i) at (and-left (leb (span_first spans i) at) (ltb at (span_end spans i)) is);
+      below = ltb-true at (span_end spans i) (and-right (leb (span_first spans i) at) (ltb at (span_end spans i)) is);
     }
 
-pub ended-go : (spans : List Span) (at : ℕ) (active : List ℕ) → All (λ i. at < end_of spans i) (filter (λ i. ltb at (end_of spans i)) active)
-ended-go spans at active = All-weaker (λ i. ltb at (end_of spans i) ≡ true) (λ i. at < end_of spans i) (λ i is. ltb-true at (end_of spans i) is) (filter (λ i. ltb at (end_of spans i)) active)
-    (filter_passes (λ i. ltb at (end_of spans i)) active)
+pub ended-go : (spans : List Span) (at : ℕ) (active : List ℕ) → All (λ i. at < span_end spans i) (filter (λ i. ltb at (span_end spans i)) active)
+ended-go spans at active = All-weaker (λ i. ltb at (span_end spans i) ≡ true) (λ i. at < span_end spans i) (λ i is. ltb-true at (span_end spans i) is) (filter (λ i. ltb at (span_end spans i)) active)
+    (filter_passes (λ i. ltb at (span_end spans i)) active)
 
 -- the same rows by other words
 pub swept-by : (first end : ℕ → ℕ) (m at : ℕ) (active rows : List ℕ) (waiting rest : List (ℕ × ℕ)) → active ≡ rows → waiting ≡ rest → IsSwept first end m at active waiting → IsSwept first end m at rows rest

@@ -56,12 +56,12 @@ abbrev pub bad_clusters_record : ℕ
 bad_clusters_record = 8
 
 -- the bytes of the name of their stream, $Bad ("$BadClus")
-unfoldable pub bad_name : List ℕ
-bad_name = 36 ∷ 0 ∷ 66 ∷ 0 ∷ 97 ∷ 0 ∷ 100 ∷ 0 ∷ []
+unfoldable pub bad_stream_name : List ℕ
+bad_stream_name = 36 ∷ 0 ∷ 66 ∷ 0 ∷ 97 ∷ 0 ∷ 100 ∷ 0 ∷ []
 
 -- the attribute is a $DATA of that name
 unfoldable pub is_bad_stream : Shown → Bool
-is_bad_stream shown = (shown.kind == 0x80) && bytes_eq shown.name bad_name
+is_bad_stream shown = (shown.kind == 0x80) && bytes_eq shown.name bad_stream_name
 
 -- the attribute is one of bad clusters, and one of its runs has cluster k; a resident one has no mapping pairs, and no
 -- runs
@@ -170,14 +170,14 @@ owners_outcome o image (Clusters from to) = range_outcome o (cluster_at image o.
 owners_outcome o image (Number number) = file_outcome o (cluster_at image o.geometry.cluster) number
 
 -- a query can say that this is missing: a record, where it is asked for
-abbrev pub IsMissing : OwnerQuery → Missing → Type 0
-IsMissing Info what = ⊥
-IsMissing (Clusters from to) what = ⊥
-IsMissing (Number number) what = what ≡ missing.Record number
+abbrev pub CanMiss : OwnerQuery → Missing → Type 0
+CanMiss Info what = ⊥
+CanMiss (Clusters from to) what = ⊥
+CanMiss (Number number) what = what ≡ missing.Record number
 
 -- the refusals of a query, whatever the image tells: damage by rule C4 or C7, what is missing, and faults
 abbrev pub IsOwnersFault : OwnerQuery → ShowFault → Type 0
-IsOwnersFault query (show.NotFound what) = IsMissing query what
+IsOwnersFault query (show.NotFound what) = CanMiss query what
 IsOwnersFault query (show.NotPlain flags) = ⊥
 IsOwnersFault query (show.Damaged broken number) = (broken ≡ rule.C4) ⊎ (broken ≡ rule.C7)
 IsOwnersFault query show.ReadFault = Unit {0}

@@ -17,8 +17,8 @@ pub record Span : Type 0 where
   pub end : ℕ
 
 -- what the code keeps of it
-abbrev pub span_of : Row → Span
-span_of row = record { text = row.text.now; vcn = row.vcn; first = row.first; end = row.end }
+abbrev pub row_span : Row → Span
+row_span row = record { text = row.text.now; vcn = row.vcn; first = row.first; end = row.end }
 
 -- no clusters
 abbrev pub no_span : Span
@@ -50,11 +50,11 @@ held_spans from end (held ∷ rest) = run_spans from end held.text held.lowest h
 
 -- ---- rows by their number
 
-abbrev pub first_of : List Span → ℕ → ℕ
-first_of spans i = (get_or spans i no_span).first
+abbrev pub span_first : List Span → ℕ → ℕ
+span_first spans i = (get_or spans i no_span).first
 
-abbrev pub end_of : List Span → ℕ → ℕ
-end_of spans i = (get_or spans i no_span).end
+abbrev pub span_end : List Span → ℕ → ℕ
+span_end spans i = (get_or spans i no_span).end
 
 -- each row's first cluster and its number, from a number on
 abbrev pub starts_from : ℕ → List Span → List (ℕ × ℕ)
@@ -105,15 +105,15 @@ upto zero = []
 upto (suc n) = upto n ++ n ∷ []
 
 -- a number where a test holds
-abbrev pub only_if : Bool → ℕ → ℕ
-only_if b n = if b then n else 0
+abbrev pub number_where : Bool → ℕ → ℕ
+number_where b n = if b then n else 0
 
 -- what is known of m rows before cluster at is looked at, where functions give their first clusters and their ends:
 -- active rows begin at it or before, the others wait and begin at it or behind it, by their first clusters; and the
 -- rows that haven't ended are these together, which sums tell
 pub record IsSwept (first end : ℕ → ℕ) (m at : ℕ) (active : List ℕ) (waiting : List (ℕ × ℕ)) : Type 0 where
   pub law : (f : ℕ → ℕ)
-      → sum_by f active + sum_by (λ s. f s.1) waiting ≡ sum_by (λ i. only_if (nat_lt at (end i)) (f i)) (upto m)
+      → sum_by f active + sum_by (λ s. f s.1) waiting ≡ sum_by (λ i. number_where (nat_lt at (end i)) (f i)) (upto m)
   pub begun : All (λ i. (first i ≤ at) × (i < m)) active
   pub later : All (λ s. at ≤ s.0) waiting
   pub tied : All (λ s. (s.0 ≡ first s.1) × (s.0 < end s.1) × (s.1 < m)) waiting
@@ -122,11 +122,11 @@ pub record IsSwept (first end : ℕ → ℕ) (m at : ℕ) (active : List ℕ) (w
 -- the row of a number has cluster k
 pub record HasCluster (spans : List Span) (k i : ℕ) : Type 0 where
   pub there : i < length spans
-  pub first : first_of spans i ≤ k
-  pub below : k < end_of spans i
+  pub first : span_first spans i ≤ k
+  pub below : k < span_end spans i
 
 -- a row has clusters, all from one on, below another one
-pub record LiesIn (from end : ℕ) (span : Span) : Type 0 where
+pub record LiesBetween (from end : ℕ) (span : Span) : Type 0 where
   pub some : span.first < span.end
   pub low : from ≤ span.first
   pub high : span.end ≤ end

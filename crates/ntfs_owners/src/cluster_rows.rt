@@ -4,7 +4,7 @@ ghost use Rattle.std.specs.Prelude.{◌≡◌, ◌≤◌, ◌<◌, ◌+◌, ◌-
 ghost use Rattle.std.specs.Option.{option_to_list, option_map};
 ghost use Rattle.ntfs_runs.specs.Clusters.{vcns};
 ghost use Rattle.ntfs_owners.specs.Held.{held_of};
-ghost use Rattle.ntfs_owners.specs.Sweep.{held_spans, row_spans, run_spans, span_of};
+ghost use Rattle.ntfs_owners.specs.Sweep.{held_spans, row_spans, run_spans, row_span};
 
 use crate::holding::Holding;
 use crate::row::Row;
@@ -14,7 +14,7 @@ use std::alloc::{AllocError, Global};
 /// The clusters of a run from a VCN on that lie from one on, below another one.
 fn row_in<'a>(text: &'a str, vcn: u64, run: &Run, from: u64, end: u64) -> Option<Row<'a>>
     requires { vcn + run.now.length < 2 ^ 64 }
-    ensures { option_to_list (option_map span_of result)
+    ensures { option_to_list (option_map row_span result)
         ≡ row_spans from end text.now vcn run.now.length run.now.lcn }
 {
     let first = run.lcn?;
@@ -33,8 +33,8 @@ fn row_in<'a>(text: &'a str, vcn: u64, run: &Run, from: u64, end: u64) -> Option
 
 /// Adds a row, where there is one.
 fn add_row<'a>(row: Option<Row<'a>>, rows: &mut Vec<Row<'a>>) -> Result<(), AllocError>
-    ensures { OnOk result (map span_of rows.new.items
-        ≡ map span_of rows.old.items ++ option_to_list (option_map span_of row.entry)) }
+    ensures { OnOk result (map row_span rows.new.items
+        ≡ map row_span rows.old.items ++ option_to_list (option_map row_span row.entry)) }
 {
     if let Some(row) = row {
         rows.push(row)?;
@@ -52,8 +52,8 @@ fn add_runs<'a>(
     rows: &mut Vec<Row<'a>>,
 ) -> Result<(), AllocError>
     requires { lowest + length (vcns runs.now) < 2 ^ 64 }
-    ensures { OnOk result (map span_of rows.new.items
-        ≡ map span_of rows.old.items ++ run_spans from end text.now lowest runs.now) }
+    ensures { OnOk result (map row_span rows.new.items
+        ≡ map row_span rows.old.items ++ run_spans from end text.now lowest runs.now) }
 {
     let mut vcn = lowest;
     'runs: for run in runs {
@@ -70,7 +70,7 @@ pub(crate) fn rows_in<'a>(
     from: u64,
     end: u64,
 ) -> Result<Vec<Row<'a>>, AllocError>
-    ensures { IfOk result (λ rows. map span_of rows.items ≡ held_spans from end (map held_of held.now)) }
+    ensures { IfOk result (λ rows. map row_span rows.items ≡ held_spans from end (map held_of held.now)) }
 {
     let mut rows = Vec::new(alloc);
     'held: for holding in held {

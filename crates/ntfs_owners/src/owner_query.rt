@@ -6,7 +6,7 @@ ghost use Rattle.ntfs_base.specs.Frames.{Copies, Gives, IfTold, OnlyPuts, OnlyRe
 ghost use Rattle.ntfs_bitmap.specs.ClusterSet.{bound_of, count_where, has};
 ghost use Rattle.ntfs_record.specs.Views.{placed_of, shown_body, shown_placed, shown_view};
 ghost use Rattle.ntfs_print.specs.Fault.{gather_refusal, show_origin};
-ghost use Rattle.ntfs_owners.specs.Owners.{are_bad_in, record_attributes, bad_name, bad_clusters_record, is_bad_in, is_bad_stream, none_if_absent, owners_outcome, runs_have, summary_lines, summary_outcome, volume_summary, IsOwnersFault};
+ghost use Rattle.ntfs_owners.specs.Owners.{are_bad_in, record_attributes, bad_stream_name, bad_clusters_record, is_bad_in, is_bad_stream, none_if_absent, owners_outcome, runs_have, summary_lines, summary_outcome, volume_summary, IsOwnersFault};
 ghost use Rattle.ntfs_owners.specs.declared.owner_query.OwnerQuery.{OwnerQuery};
 ghost use Rattle.ntfs_survey.specs.Owned.{is_whole, runs_in, volume_survey};
 ghost use Rattle.ntfs_survey.specs.Surveying.{record_at};
@@ -50,9 +50,9 @@ const BAD_RECORD: u64 = 8;
 const DATA: u32 = 0x80;
 
 /// The name of the stream of bad clusters.
-#[tactic(auto, unfolding(crate::specs::Owners::bad_name))]
-fn bad_name() -> &'static [u8]
-    ensures { result.now ≡ bad_name }
+#[tactic(auto, unfolding(crate::specs::Owners::bad_stream_name))]
+fn bad_stream_name() -> &'static [u8]
+    ensures { result.now ≡ bad_stream_name }
 {
     b"$\0B\0a\0d\0"
 }
@@ -100,7 +100,7 @@ fn add_pairs(
 fn is_bad_stream(attribute: &AttributeView<'_>) -> bool
     ensures { result ≡ is_bad_stream (shown_view attribute.now) }
 {
-    attribute.kind == DATA && attribute.name == bad_name()
+    attribute.kind == DATA && attribute.name == bad_stream_name()
 }
 
 /// The mapping pairs of an attribute; a resident one has none.

@@ -6,7 +6,7 @@ ghost use Rattle.ntfs_base.specs.Frames.{OnlyPuts};
 ghost use Rattle.ntfs_owners.specs.OwnerLines.{cluster_head, cluster_tail};
 ghost use Rattle.ntfs_print.specs.Pending.{OnlyPrints, Pushes, put_origin};
 ghost use Rattle.ntfs_print.specs.Fault.{show_origin};
-ghost use Rattle.ntfs_owners.specs.Sweep.{HasCluster, IsPutCut, IsSwept, LiesIn, due_row, end_of, first_of, line_in, next_cluster, rows_cluster, span_of, starts_from, swept_lines};
+ghost use Rattle.ntfs_owners.specs.Sweep.{HasCluster, IsPutCut, IsSwept, LiesBetween, due_row, span_end, span_first, line_in, next_cluster, rows_cluster, row_span, starts_from, swept_lines};
 
 use crate::owner_lines::{Word, push_word};
 use crate::row::Row;
@@ -46,7 +46,7 @@ fn print_cluster<K: Sink>(
 ) -> Result<(), PutFault>
     requires first { row.now.first ≤ cluster }
     requires end { cluster < row.now.end }
-    ensures pushes { Pushes (line_in cluster (span_of row.now)) pending.old (K.seen out.old) result
+    ensures pushes { Pushes (line_in cluster (row_span row.now)) pending.old (K.seen out.old) result
         pending.new (K.seen out.new) }
     ensures puts { OnlyPuts K.Sink put_origin out.old out.new result }
 {
@@ -65,8 +65,8 @@ fn print_rows<K: Sink>(
     pending: &mut Pending,
     out: &mut K,
 ) -> Result<(), PutFault>
-    requires { All (HasCluster (map span_of rows.now) cluster) active.now }
-    ensures pushes { Pushes (rows_cluster cluster (map span_of rows.now) active.now) pending.old (K.seen out.old)
+    requires { All (HasCluster (map row_span rows.now) cluster) active.now }
+    ensures pushes { Pushes (rows_cluster cluster (map row_span rows.now) active.now) pending.old (K.seen out.old)
         result pending.new (K.seen out.new) }
     ensures puts { OnlyPuts K.Sink put_origin out.old out.new result }
 {
@@ -78,7 +78,7 @@ fn print_rows<K: Sink>(
 
 /// Each row's first cluster and its number, in the order of the first clusters.
 fn starts_of(alloc: Global, rows: &[Row<'_>]) -> Result<Vec<(u64, usize)>, AllocError>
-    ensures all { IfOk result (λ starts. IsPermutation (starts_from 0 (map span_of rows.now)) starts.items) }
+    ensures all { IfOk result (λ starts. IsPermutation (starts_from 0 (map row_span rows.now)) starts.items) }
     ensures sorted { IfOk result (λ starts. IsNonDecreasingBy (λ start. start.0) starts.items) }
 {
     let mut starts = Vec::with_capacity(alloc, rows.len())?;
@@ -154,7 +154,7 @@ fn start_due(
 
 /// The row of a number ends behind this cluster.
 fn ends_behind(rows: &[Row<'_>], number: usize, at: u64) -> bool
-    ensures { result ≡ nat_lt at (end_of (map span_of rows.now) number) }
+    ensures { result ≡ nat_lt at (span_end (map row_span rows.now) number) }
 {
     match rows.get(number) {
         None => false,
@@ -164,7 +164,7 @@ fn ends_behind(rows: &[Row<'_>], number: usize, at: u64) -> bool
 
 /// Leaves out the active rows that don't end behind this cluster.
 fn drop_ended(rows: &[Row<'_>], active: &mut Vec<usize>, at: u64)
-    ensures { active.new.items ≡ filter (λ i. nat_lt at (end_of (map span_of rows.now) i)) active.old.items }
+    ensures { active.new.items ≡ filter (λ i. nat_lt at (span_end (map row_span rows.now) i)) active.old.items }
 {
     let mut kept = 0;
     let mut index = 0;
@@ -189,10 +189,10 @@ fn sweep<K: Sink>(
     pending: &mut Pending,
     out: &mut K,
 ) -> Result<(), ShowFault>
-    requires swept { IsSwept (first_of (map span_of rows.now)) (end_of (map span_of rows.now))
-        (length (map span_of rows.now)) from [] starts.now }
-    requires ends { All (λ span. span.end ≤ end) (map span_of rows.now) }
-    ensures pushes { Pushes (swept_lines (map span_of rows.now) from (end - from)) pending.old (K.seen out.old) result
+    requires swept { IsSwept (span_first (map row_span rows.now)) (span_end (map row_span rows.now))
+        (length (map row_span rows.now)) from [] starts.now }
+    requires ends { All (λ span. span.end ≤ end) (map row_span rows.now) }
+    ensures pushes { Pushes (swept_lines (map row_span rows.now) from (end - from)) pending.old (K.seen out.old) result
         pending.new (K.seen out.new) }
     ensures faults { IfErr result IsPutCut }
     ensures frame { OnlyPrints K.Sink show_origin out.old out.new result }
@@ -219,8 +219,8 @@ pub(crate) fn print_clusters<K: Sink>(
     pending: &mut Pending,
     out: &mut K,
 ) -> Result<(), ShowFault>
-    requires { All (LiesIn from end) (map span_of rows.now) }
-    ensures pushes { Pushes (swept_lines (map span_of rows.now) from (end - from)) pending.old (K.seen out.old) result
+    requires { All (LiesBetween from end) (map row_span rows.now) }
+    ensures pushes { Pushes (swept_lines (map row_span rows.now) from (end - from)) pending.old (K.seen out.old) result
         pending.new (K.seen out.new) }
     ensures faults { IfErr result IsPutCut }
     ensures frame { OnlyPrints K.Sink show_origin out.old out.new result }

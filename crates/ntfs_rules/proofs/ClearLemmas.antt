@@ -8,7 +8,7 @@ use Rattle.ntfs_directory.specs.UpCase.{data_kind}
 use Rattle.ntfs_rules.specs.Accepts.{Broken, Line, claims_in, fault_of, first_broken, first_rules, further_rules, or_broken}
 use Rattle.ntfs_rules.specs.Clusters.{c8}
 use Rattle.ntfs_rules.specs.Files.{c11, c12}
-use Rattle.ntfs_rules.specs.FixedRecords.{c15, passes, row_0, row_7, rows}
+use Rattle.ntfs_rules.specs.FixedRecords.{c15, passes, row_0, row_7, fixed_rows}
 use Rattle.ntfs_rules.specs.Records.{c7}
 use Rattle.ntfs_rules.specs.VolumeData.{VolumeData, listings, numbers, stream_in}
 use Rattle.ntfs_volume.specs.Streams.{Gathered}
@@ -55,9 +55,9 @@ c12-clear v is = (lines-clear v is).1.1.1.1.1.1.1.1.0
 c15-clear : (v : VolumeData) → fault_of v ≡ None → c15 v.geometry (map (λ (k : Cluster). k.number) v.table) (listings v) (numbers v) ≡ None
 c15-clear v is = (lines-clear v is).1.1.1.1.1.1.1.1.1.1.1.0
 
-rows-clear : (v : VolumeData) → fault_of v ≡ None → AllByRecursion (λ (c : Check ℕ). c.holds ≡ true) (rows v.geometry (map (λ (k : Cluster). k.number) v.table) (listings v) (numbers v))
+rows-clear : (v : VolumeData) → fault_of v ≡ None → AllByRecursion (λ (c : Check ℕ). c.holds ≡ true) (fixed_rows v.geometry (map (λ (k : Cluster). k.number) v.table) (listings v) (numbers v))
 unfolding c15
-rows-clear v is = all-hold (rows v.geometry (map (λ (k : Cluster). k.number) v.table) (listings v) (numbers v)) (c15-clear v is)
+rows-clear v is = all-hold (fixed_rows v.geometry (map (λ (k : Cluster). k.number) v.table) (listings v) (numbers v)) (c15-clear v is)
 
 pub row_0-clear : (v : VolumeData) → fault_of v ≡ None → row_0 v.geometry (map (λ (k : Cluster). k.number) v.table) (stream_in v 0 data_kind []) ≡ true
 row_0-clear v is = (rows-clear v is).0

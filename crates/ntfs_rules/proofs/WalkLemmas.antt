@@ -16,7 +16,7 @@ use Rattle.ntfs_record.proofs.SlotLemmas.{first_not-map}
 use Rattle.ntfs_record.specs.FileRecord.{Laid}
 use Rattle.ntfs_record.specs.Slots.{Slot, first_not, map_laid, map_slot, map_slots, on_payload}
 use Rattle.ntfs_rules.proofs.DataLemmas.{content-is, contents-are}
-use Rattle.ntfs_rules.specs.Directories.{root_of, up_case_units, walk_by, walk_found, walk_of}
+use Rattle.ntfs_rules.specs.Directories.{root_of, up_case_units, walk_by, gathered_walk, walk_of}
 use Rattle.ntfs_rules.specs.VolumeData.{Records, bytes_found, content_in, contents, listings, volume_data, without_clusters}
 use Rattle.ntfs_runs.specs.Cells.{Cells, are_cells, cells_below, map_cells}
 use Rattle.ntfs_stream.specs.StreamBytes.{bytes_of_stream}
@@ -79,8 +79,8 @@ walked g image d (Ok root) blocks = root-walked g image d root blocks
 walked g image d (Err fault) blocks = refl
 
 walk-filled : (g : Geometry) (image : List ℕ) (d : ℕ) (root blocks : Result (Gathered ℕ) VolumeFault)
-    → walk_found g d (filled (cluster_at image g.cluster) root) (filled (cluster_at image g.cluster) blocks) ≡ by_root g image d blocks (index_root_value d root)
-unfolding walk_found root_of
+    → gathered_walk g d (filled (cluster_at image g.cluster) root) (filled (cluster_at image g.cluster) blocks) ≡ by_root g image d blocks (index_root_value d root)
+unfolding gathered_walk root_of
 walk-filled g image d root blocks =
     ap (by_filled g image d blocks) (root-filled (cluster_at image g.cluster) d root) ∙ walked g image d (index_root_value d root) blocks
 
@@ -91,8 +91,8 @@ pub walk-is : (o : Opened) (image : List ℕ) (d : ℕ)
 unfolding walk_of directory_walk directory_index volume_data
 walk-is o image d =
     let f = cluster_at image o.geometry.cluster in
-    ap (λ (found : Result (Gathered (List ℕ)) VolumeFault). walk_found o.geometry d found (content_in (volume_data o f) d allocation_kind index_name)) (content-filled o f d root_kind index_name)
-    ∙ ap (walk_found o.geometry d (filled f (gather_of o.geometry o.map f d root_kind index_name))) (content-filled o f d allocation_kind index_name)
+    ap (λ (found : Result (Gathered (List ℕ)) VolumeFault). gathered_walk o.geometry d found (content_in (volume_data o f) d allocation_kind index_name)) (content-filled o f d root_kind index_name)
+    ∙ ap (gathered_walk o.geometry d (filled f (gather_of o.geometry o.map f d root_kind index_name))) (content-filled o f d allocation_kind index_name)
     ∙ walk-filled o.geometry image d (gather_of o.geometry o.map f d root_kind index_name) (gather_of o.geometry o.map f d allocation_kind index_name)
 
 -- ---- the table of upper-case units

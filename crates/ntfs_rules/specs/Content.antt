@@ -13,7 +13,7 @@ use Rattle.ntfs_runs.specs.declared.run.Run.{Run}
 use Rattle.ntfs_stream.specs.Putting.{shown_cells}
 
 -- runs can be read in an image of this length, on a volume of this geometry
-pub record CanRead (size : ℕ) (g : Geometry) (runs : List Run) : Type 0 where
+pub record AreReadable (size : ℕ) (g : Geometry) (runs : List Run) : Type 0 where
   pub opened : IsOpened size g
   pub within : AreWithin runs
   pub cells : are_cells true g.clusters (vcns runs) ≡ true

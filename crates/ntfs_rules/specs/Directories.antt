@@ -69,14 +69,14 @@ root_of d root blocks = do
   Ok value
 
 -- the walk of directory d: a function of its index root and blocks, of the cluster and the block size
-unfoldable pub walk_found : Geometry → ℕ → Result (Gathered (List ℕ)) VolumeFault
+unfoldable pub gathered_walk : Geometry → ℕ → Result (Gathered (List ℕ)) VolumeFault
     → Result (Gathered (List ℕ)) VolumeFault → DirectoryWalk
-walk_found g d root blocks = walk_by g d (root_of d root blocks) (bytes_found g.cluster blocks)
+gathered_walk g d root blocks = walk_by g d (root_of d root blocks) (bytes_found g.cluster blocks)
 
 -- the walk of directory d among these records
 unfoldable pub walk_of : Geometry → Lists → Records (List ℕ) → ℕ → DirectoryWalk
 walk_of g listings slots d =
-    walk_found g d (gather g.cluster listings slots d root_kind index_name)
+    gathered_walk g d (gather g.cluster listings slots d root_kind index_name)
     (gather g.cluster listings slots d allocation_kind index_name)
 
 -- ---- C13
@@ -100,14 +100,15 @@ are_ascending table (name ∷ next ∷ names) =
     not (is_gt (collate table name next)) && are_ascending table (next ∷ names)
 
 -- no two names are the same
-unfoldable pub are_distinct : List (List ℕ) → Bool
-are_distinct [] = true
-are_distinct (name ∷ names) = not (list_any (bytes_eq name) names) && are_distinct names
+unfoldable pub are_distinct_names : List (List ℕ) → Bool
+are_distinct_names [] = true
+are_distinct_names (name ∷ names) = not (list_any (bytes_eq name) names) && are_distinct_names names
 
 -- a walk is whole, its names ascend by the table, and no two are the same
 unfoldable pub is_ordered : List ℕ → DirectoryWalk → Bool
 is_ordered table walk =
-    not (is_some walk.fault) && (are_ascending table (names_in walk.entries) && are_distinct (names_in walk.entries))
+    not (is_some walk.fault)
+    && (are_ascending table (names_in walk.entries) && are_distinct_names (names_in walk.entries))
 
 -- the first directory whose walk isn't so; record 10 where there is no table
 abbrev pub first_disordered : Result (List ℕ) VolumeFault → (ℕ → DirectoryWalk) → Records (List ℕ) → Option ℕ

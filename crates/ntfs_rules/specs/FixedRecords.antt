@@ -49,8 +49,8 @@ are_in_place vcn (None ∷ cells) = are_in_place (suc vcn) cells
 are_in_place vcn (Some cluster ∷ cells) = (cluster == vcn) && are_in_place (suc vcn) cells
 
 -- size and initialised size are so many bytes at least
-abbrev pub has_bytes : ℕ → Stream ℕ → Bool
-has_bytes least s = nat_le least s.size && nat_le least s.valid
+abbrev pub has_both_sizes : ℕ → Stream ℕ → Bool
+has_both_sizes least s = nat_le least s.size && nat_le least s.valid
 
 -- ---- C15
 
@@ -106,7 +106,7 @@ row_5 s = s.is_live && has_directory_flag s
 
 -- a stream of one extent without holes, which has a bit for each of n clusters, all initialised
 unfoldable pub is_bitmap : ℕ → Gathered ℕ → Bool
-is_bitmap n s = is_solid n s.stream && ((s.extents == 1) && has_bytes (div_ceil n 8) s.stream)
+is_bitmap n s = is_solid n s.stream && ((s.extents == 1) && has_both_sizes (div_ceil n 8) s.stream)
 
 -- record 6, $Bitmap: no list; a stream that is so
 unfoldable pub row_6 : Geometry → Lists → Result (Gathered ℕ) VolumeFault → Bool
@@ -126,8 +126,8 @@ row_8 listings found =
     && ((s.extents == 1) && are_in_place 0 s.stream.cells))) found
 
 -- the rows by their records
-abbrev pub rows : Geometry → List ℕ → Lists → Records ℕ → List (Check ℕ)
-rows g table listings slots =
+abbrev pub fixed_rows : Geometry → List ℕ → Lists → Records ℕ → List (Check ℕ)
+fixed_rows g table listings slots =
     check (row_0 g table (data_of g listings slots 0)) 0
     ∷ check (row_1 g listings (data_of g listings slots 1)) 1
     ∷ check (row_2 g (data_of g listings slots 2)) 2
@@ -140,7 +140,7 @@ rows g table listings slots =
 
 -- C15: each of these records is as its row says; `table` are the clusters of $MFT by its map
 unfoldable pub c15 : Geometry → List ℕ → Lists → Records ℕ → Option ℕ
-c15 g table listings slots = first_wrong (rows g table listings slots)
+c15 g table listings slots = first_wrong (fixed_rows g table listings slots)
 
 -- ---- C16
 

@@ -5,7 +5,7 @@ ghost use Rattle.std.specs.Option.{option_map};
 ghost use Rattle.ntfs_base.specs.Bytes.{cluster_at, piece_at};
 ghost use Rattle.ntfs_base.specs.Frames.{IfTold, IsSettled, OnlyReads};
 ghost use Rattle.ntfs_boot.specs.Geometry.{IsOpened};
-ghost use Rattle.ntfs_rules.specs.Content.{CanRead, shown_bytes};
+ghost use Rattle.ntfs_rules.specs.Content.{AreReadable, shown_bytes};
 ghost use Rattle.ntfs_rules.specs.Outcome.{check_origin};
 ghost use Rattle.ntfs_runs.specs.Clusters.{AreWithin, vcns};
 ghost use Rattle.ntfs_stream.specs.Putting.{shown_cell};
@@ -78,7 +78,7 @@ pub fn read_vcn<G: Image>(
     vcn: u64,
     into: &mut [u8],
 ) -> Result<(), CheckFault>
-    requires readable { CanRead (G.seen image.old).size geometry.now runs.now }
+    requires readable { AreReadable (G.seen image.old).size geometry.now runs.now }
     requires there { vcn < length (vcns runs.now) }
     requires whole { length into.old ≡ geometry.now.cluster }
     ensures bytes { OnOk result (IfTold G.Image image.old (λ content. into.new
@@ -134,7 +134,7 @@ fn read_runs<G: Image>(
     valid: u64,
     most: u64,
 ) -> Result<Front, CheckFault>
-    requires readable { CanRead (G.seen image.old).size geometry.now runs.now }
+    requires readable { AreReadable (G.seen image.old).size geometry.now runs.now }
     requires there { most ≤ length (vcns runs.now) * geometry.now.cluster }
     requires few { most < 2 ^ 32 }
     ensures bytes { IfOk result (λ front. IfTold G.Image image.old (λ content. front

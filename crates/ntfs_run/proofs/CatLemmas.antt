@@ -24,7 +24,7 @@ use Rattle.ntfs_directory.specs.declared.path_fault.PathFault.{PathFault}
 use Rattle.ntfs_directory.specs.declared.path_fault.PathFault.TheVariants as path
 use Rattle.ntfs_words.specs.declared.request.Target.{Target}
 use Rattle.ntfs_words.specs.declared.request.Target.TheVariants as target
-use Rattle.ntfs_run.specs.Place.{number_at, number_meant}
+use Rattle.ntfs_run.specs.Place.{path_number, number_meant}
 use Rattle.ntfs_words.specs.declared.request.WordsFault.{WordsFault}
 use Rattle.ntfs_run.specs.Cat.{IsStreamOf, PutsStream, cat_bytes, stream_name}
 use Rattle.ntfs_run.specs.Outcome.{Does, path_status, show_status, status_of, status_origin, volume_status}
@@ -112,7 +112,7 @@ done_at (Ok number) is = cc
 done_at (Err fault) is = done_path fault cc
 
 done_meant : (place : Target) (volume : Opened) (image : List ℕ) → number_meant place volume image ≡ Err status.Done → ⊥
-unfolding number_at
+unfolding path_number
 done_meant (target.Number number) volume image is = cc
 done_meant (target.Path path) volume image is = done_at (path_of volume.geometry volume.map image path) is
 

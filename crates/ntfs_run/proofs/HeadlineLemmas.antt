@@ -26,15 +26,11 @@ use Rattle.ntfs_rules.specs.VolumeData.{volume_data}
 use Rattle.ntfs_rules.specs.declared.fault.CheckFault.{CheckFault}
 use Rattle.ntfs_rules.specs.declared.fault.CheckFault.TheVariants as check
 use Rattle.ntfs_volume.specs.Opened.{Opened, opened_of}
-use Rattle.ntfs_words.specs.declared.request.Request.{Request}
-use Rattle.ntfs_words.specs.declared.request.Request.TheVariants as request
-use Rattle.ntfs_words.specs.declared.request.WordsFault.{WordsFault}
 use Rattle.ntfs_run.specs.Checked.{checked_of}
-use Rattle.ntfs_run.specs.Clone.{clone_bytes, end_of, restore_work, restored_by, restored_image, save_work, saved_bytes, saved_image, saved_in, saved_into, source_bytes, volume_in, volume_to_save}
-use Rattle.ntfs_run.specs.Headline.{ClonesIfDone, CopiesFile, IsCloneOf, IsCopyOf, RestoresFile, SavesFile, SavesOutput}
+use Rattle.ntfs_run.specs.Clone.{clone_bytes, restore_end, restore_work, restored_by, restored_image, save_work, saved_bytes, saved_image, saved_in, saved_into, source_bytes, volume_in, volume_to_save}
+use Rattle.ntfs_run.specs.Headline.{CopiesFile, IsCloneOf, IsCopyOf, RestoresFile, SavesFile, SavesOutput}
 use Rattle.ntfs_run.specs.Outcome.{Does, Outcome, Work, check_status, clone_status, may_make, outcome_of, outcome_or, volume_status}
-use Rattle.ntfs_run.specs.Reply.{outcome_for}
-use Rattle.ntfs_run.specs.declared.checked.Checked.{Checked}
+use Rattle.ntfs_run.specs.declared.checked.Accepted.{Accepted}
 use Rattle.ntfs_run.specs.declared.status.Status.{Status}
 use Rattle.ntfs_run.specs.declared.status.Status.TheVariants as status
 use Rattle.ntfs_volume.specs.declared.fault.VolumeFault.{VolumeFault}
@@ -54,20 +50,20 @@ done_volume volume.NoMemory is = cc
 done_volume volume.Absent is = cc
 done_volume volume.NoAttribute is = cc
 
-done_then : {A B : Type 0} (r : Result A Status) (f : A → Result B Status) → (r ≡ Err status.Done → ⊥) → ((x : A) → f x ≡ Err status.Done → ⊥)
+pub done_then : {A B : Type 0} (r : Result A Status) (f : A → Result B Status) → (r ≡ Err status.Done → ⊥) → ((x : A) → f x ≡ Err status.Done → ⊥)
     → (r >>= f) ≡ Err status.Done → ⊥
 done_then (Ok x) f first rest is = rest x is
 done_then (Err fault) f first rest is = first (let same : fault ≡ status.Done = cc in ap Err same)
 
-done_must : (b : Bool) (fault : Status) → (fault ≡ status.Done → ⊥) → must b fault ≡ Err status.Done → ⊥
+pub done_must : (b : Bool) (fault : Status) → (fault ≡ status.Done → ⊥) → must b fault ≡ Err status.Done → ⊥
 done_must true fault none is = cc
 done_must false fault none is = none cc
 
-done_refused : {A E : Type 0} (over : E → Status) (r : Result A E) → ((e : E) → over e ≡ status.Done → ⊥) → refused_as over r ≡ Err status.Done → ⊥
+pub done_refused : {A E : Type 0} (over : E → Status) (r : Result A E) → ((e : E) → over e ≡ status.Done → ⊥) → refused_as over r ≡ Err status.Done → ⊥
 done_refused over (Ok x) none is = cc
 done_refused over (Err fault) none is = none fault cc
 
-done_or : {A : Type 0} (o : Option A) (fault : Status) → (fault ≡ status.Done → ⊥) → ok_or o fault ≡ Err status.Done → ⊥
+pub done_or : {A : Type 0} (o : Option A) (fault : Status) → (fault ≡ status.Done → ⊥) → ok_or o fault ≡ Err status.Done → ⊥
 done_or None fault none is = none cc
 done_or (Some x) fault none is = cc
 
@@ -76,23 +72,23 @@ done_check (check.Damaged rule number) is = cc
 done_check check.ReadFault is = cc
 done_check check.NoMemory is = cc
 
-done_clone : (fault : CloneFault) → clone_status fault ≡ status.Done → ⊥
+pub done_clone : (fault : CloneFault) → clone_status fault ≡ status.Done → ⊥
 done_clone (clone.BadClone place) is = cc
 done_clone (clone.Damaged rule number) is = cc
 done_clone clone.ReadFault is = cc
 done_clone clone.WriteFault is = cc
 done_clone clone.NoMemory is = cc
 
-done_ok : {A : Type 0} (x : A) → ◌≡◌ {A = Result A Status} (Ok x) (Err status.Done) → ⊥
+pub done_ok : {A : Type 0} (x : A) → ◌≡◌ {A = Result A Status} (Ok x) (Err status.Done) → ⊥
 done_ok x is = cc
 
 -- ---- files that are made
 
-get_made : (files : Files) (name bytes : List ℕ) → file_of (insert files name bytes) name ≡ Some bytes
+pub get_made : (files : Files) (name bytes : List ℕ) → file_of (insert files name bytes) name ≡ Some bytes
 get_made files name bytes =
     get-insert nat_list_cmp_total files name bytes name ∙ ap (λ b. cond b (Some bytes) (file_of files name)) ((eq_by_cmp_equiv nat_list_cmp_total).refl name)
 
-held_ok : (o : Option (List ℕ)) (fault : Status) (bytes : List ℕ) → ok_or o fault ≡ Ok bytes → o ≡ Some bytes
+pub held_ok : (o : Option (List ℕ)) (fault : Status) (bytes : List ℕ) → ok_or o fault ≡ Ok bytes → o ≡ Some bytes
 held_ok None fault bytes is = absurd cc
 held_ok (Some x) fault bytes is = let same : x ≡ bytes = cc in ap Some same
 
@@ -103,11 +99,11 @@ none_broken None value given is = (refl, let same : value ≡ given = cc in sym 
 none_broken (Some b) value given is = absurd cc
 
 -- a volume that is checked is whole, and its owned clusters are those that its records own
-pub record IsChecked (image : List ℕ) (checked : Checked) : Type 0 where
+pub record IsChecked (image : List ℕ) (checked : Accepted) : Type 0 where
   pub whole : IsWhole image checked.table
   pub owned : volume_in checked image ≡ owned_volume image checked.table
 
-is_checked : (image : List ℕ) (checked : Checked) → checked_of image ≡ Ok checked → IsChecked image checked
+pub is_checked : (image : List ℕ) (checked : Accepted) → checked_of image ≡ Ok checked → IsChecked image checked
 unfolding checked_of examined volume_data
 is_checked image checked is =
     let opened = bind_ok (refused_as volume_status (opened_of image)) _ checked is in
@@ -119,6 +115,13 @@ is_checked image checked is =
       whole = record { opened = refused_ok volume_status (opened_of image) opened.0 opened.1; whole = whole.0 };
       owned = ap (λ (f : VolumeFindings). volume_in (record { table = opened.0; findings = f }) image) whole.1;
     })
+
+pub no_check : (image : List ℕ) → checked_of image ≡ Err status.Done → ⊥
+unfolding checked_of
+no_check image is =
+    done_then (refused_as volume_status (opened_of image)) _ (done_refused volume_status (opened_of image) done_volume)
+    (λ table. done_then (refused_as check_status (examined (data_in image table))) _ (done_refused check_status (examined (data_in image table)) done_check)
+    (λ findings. done_ok _)) is
 
 -- ---- saving and copying
 
@@ -138,12 +141,9 @@ saved_volume force image volume is =
     record { opened = checked.0.table; whole = good.whole; owned = sym same ∙ good.owned }
 
 no_volume : (force : Bool) (image : List ℕ) → volume_to_save force image ≡ Err status.Done → ⊥
-unfolding volume_to_save checked_of
+unfolding volume_to_save
 no_volume force image is =
-    done_then (checked_of image) _
-    (done_then (refused_as volume_status (opened_of image)) _ (done_refused volume_status (opened_of image) done_volume)
-    (λ table. done_then (refused_as check_status (examined (data_in image table))) _ (done_refused check_status (examined (data_in image table)) done_check)
-    (λ findings. done_ok _)))
+    done_then (checked_of image) _ (no_check image)
     (λ checked. done_then (must (force || not checked.findings.facts.dirty) status.Dirty) _ (done_must _ status.Dirty (λ is. cc)) (λ clean. done_ok _)) is
 
 no_place : (save overwrite : Bool) (output : List ℕ) (volume : Volume) (files : Files) → saved_in named.Output save output overwrite volume files ≡ Err status.Done → ⊥
@@ -191,7 +191,7 @@ placed save overwrite output volume files work is =
     sym (ap (λ (w : Work). w.files) same)
 
 module _ (force : Bool) (overwrite : Bool) (source : List ℕ) (old left : Files) (before after : SinkState) where
-  saves_file : (output : List ℕ) (r : Result Work Status) → save_work true force (Some output) overwrite (Some source) old ≡ r
+  pub saves_file : (output : List ℕ) (r : Result Work Status) → save_work true force (Some output) overwrite (Some source) old ≡ r
       → Does (outcome_of old r) status.Done before after left → SavesFile source output old left
   saves_file output (Ok work) is does =
       let so = saved_so true force (Some output) overwrite source old work is in
@@ -204,7 +204,7 @@ module _ (force : Bool) (overwrite : Bool) (source : List ℕ) (old left : Files
       }
   saves_file output (Err fault) is does = absurd (no_save true force (Some output) overwrite source old (is ∙ ap Err (sym (does.status tt))))
 
-  saves_output : (r : Result Work Status) → save_work true force None overwrite (Some source) old ≡ r
+  pub saves_output : (r : Result Work Status) → save_work true force None overwrite (Some source) old ≡ r
       → Does (outcome_of old r) status.Done before after left → SavesOutput source old before after
   saves_output (Ok work) is does =
       let so = saved_so true force None overwrite source old work is in
@@ -218,7 +218,7 @@ module _ (force : Bool) (overwrite : Bool) (source : List ℕ) (old left : Files
       }
   saves_output (Err fault) is does = absurd (no_save true force None overwrite source old (is ∙ ap Err (sym (does.status tt))))
 
-  copies_file : (output : List ℕ) (r : Result Work Status) → save_work false force (Some output) overwrite (Some source) old ≡ r
+  pub copies_file : (output : List ℕ) (r : Result Work Status) → save_work false force (Some output) overwrite (Some source) old ≡ r
       → Does (outcome_of old r) status.Done before after left → CopiesFile source output old left
   copies_file output (Ok work) is does =
       let so = saved_so false force (Some output) overwrite source old work is in
@@ -249,14 +249,14 @@ no_restore output overwrite (Some source) files input is =
     (λ header. done_then (may_make named.Output overwrite output files) _ (done_must _ (status.Present named.Output) (λ is. cc)) (λ free. done_ok _))) is
 
 -- what is restored of a clone image whose commands are right
-restored_whole : (bytes : List ℕ) (header : CloneHeader) (commands : List Command) → clone_header bytes ≡ Ok header
+pub restored_whole : (bytes : List ℕ) (header : CloneHeader) (commands : List Command) → clone_header bytes ≡ Ok header
     → clone_commands header (drop header.offset bytes) ≡ Ok commands → restore_of bytes ≡ Ok (restored header commands)
 unfolding restore_of read_clone
 restored_whole bytes header commands begins follow =
     rw begins (rw follow refl)
 
 -- the commands are right where the restore was done
-ends_done : (r : Result (List Command) CloneFault) → end_of r ≡ status.Done → (commands : List Command) × (r ≡ Ok commands)
+pub ends_done : (r : Result (List Command) CloneFault) → restore_end r ≡ status.Done → (commands : List Command) × (r ≡ Ok commands)
 ends_done (Ok commands) is = (commands, refl)
 ends_done (Err fault) is = absurd (done_clone fault is)
 
@@ -264,14 +264,14 @@ same_restored : (a b : List ℕ) → ◌≡◌ {A = Result (List ℕ) CloneFault
 same_restored a b is = cc
 
 -- what is restored of the clone image of a whole image is the same volume
-comes_back : (clone copy : List ℕ) → restore_of clone ≡ Ok copy → (image : List ℕ) → IsCloneOf image clone → IsCopyOf image copy
+pub comes_back : (clone copy : List ℕ) → restore_of clone ≡ Ok copy → (image : List ℕ) → IsCloneOf image clone → IsCopyOf image copy
 comes_back clone copy is image saved =
     let same : copy_of (owned_volume image saved.opened) ≡ copy =
     same_restored _ _ (sym (clone-restored image saved.opened saved.whole) ∙ ap restore_of (sym saved.saved) ∙ is) in
     record { opened = saved.opened; whole = saved.whole; same = subst (λ c. IsSameVolume image c saved.opened) same (same-volume image saved.opened saved.whole) }
 
 module _ (output : List ℕ) (overwrite : Bool) (source : Option (List ℕ)) (old left : Files) (input : List ℕ) (before after : SinkState) where
-  restores_file : (r : Result Outcome Status) → restore_work (Some output) overwrite source old input ≡ r
+  pub restores_file : (r : Result Outcome Status) → restore_work (Some output) overwrite source old input ≡ r
       → Does (outcome_or old r) status.Done before after left → RestoresFile source output old input left
   unfolding restore_work restored_image
   restores_file (Ok outcome) is does =
@@ -281,7 +281,7 @@ module _ (output : List ℕ) (overwrite : Bool) (source : Option (List ℕ)) (ol
       let rest = drop header.offset given.0 in
       let free = bind_ok (may_make named.Output overwrite output old) _ outcome begins.2 in
       let same : record {
-        status = end_of (clone_commands header rest);
+        status = restore_end (clone_commands header rest);
         output = [];
         files = insert old output (restored_by header rest (clone_commands header rest));
       } ≡ outcome = cc in
@@ -296,26 +296,3 @@ module _ (output : List ℕ) (overwrite : Bool) (source : Option (List ℕ)) (ol
             (restored_whole given.0 header right.0 (refused_ok clone_status (clone_header given.0) header begins.1) right.1);
       }
   restores_file (Err fault) is does = absurd (no_restore output overwrite source old input (is ∙ ap Err (sym (does.status tt))))
-
--- ---- the words
-
-pub clones_done : (reading : Result Request WordsFault) (s : Status) (old left : Files) (input : List ℕ) (before after : SinkState)
-    → Does (outcome_for reading old input) s before after left → ClonesIfDone reading s old input before left after
-clones_done (Ok (request.Clone true false no_action force (Some output) overwrite (Some source))) status.Done old left input before after does =
-    saves_file force overwrite source old left before after output (save_work true force (Some output) overwrite (Some source) old) refl does
-clones_done (Ok (request.Clone true false no_action force None overwrite (Some source))) status.Done old left input before after does =
-    saves_output force overwrite source old left before after (save_work true force None overwrite (Some source) old) refl does
-clones_done (Ok (request.Clone false false no_action force (Some output) overwrite (Some source))) status.Done old left input before after does =
-    copies_file force overwrite source old left before after output (save_work false force (Some output) overwrite (Some source) old) refl does
-clones_done (Ok (request.Clone save true no_action force (Some output) overwrite source)) status.Done old left input before after does =
-    restores_file output overwrite source old left input before after (restore_work (Some output) overwrite source old input) refl does
-clones_done reading other old left input before after does = tt
-
--- nothing is promised where memory was wanting
-pub no_clones : (reading : Result Request WordsFault) (old : Files) (input : List ℕ) (before : SinkState) (left : Files) (after : SinkState)
-    → ClonesIfDone reading status.NoMemory old input before left after
-no_clones (Ok (request.Clone true false no_action force (Some output) overwrite (Some source))) old input before left after = tt
-no_clones (Ok (request.Clone true false no_action force None overwrite (Some source))) old input before left after = tt
-no_clones (Ok (request.Clone false false no_action force (Some output) overwrite (Some source))) old input before left after = tt
-no_clones (Ok (request.Clone save true no_action force (Some output) overwrite source)) old input before left after = tt
-no_clones reading old input before left after = tt

@@ -10,5 +10,8 @@ pub mod RestoreLemmas
 pub mod CloneLemmas
 pub mod CatLemmas
 pub mod ShowLemmas
+pub mod TrialLemmas
 pub mod HeadlineLemmas
+pub mod TriedLemmas
+pub mod PromiseLemmas
 pub mod ReplyLemmas

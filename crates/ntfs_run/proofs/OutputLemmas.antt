@@ -1,11 +1,13 @@
 -- A file that is made, filled and released: how it ends, what is left, and that no other file differs.
-use Rattle.std.proofs.Common.{◌≡◌, ◌≤◌, ◌⊎◌, ◌||◌, ℕ, Bool, true, false, List, [], length, refl, sym, ap, ◌∙◌, inl, inr, arith, cond, Option, Some, None}
+use Rattle.std.proofs.Common.{◌≡◌, ◌≤◌, ◌⊎◌, ◌||◌, ℕ, Bool, true, false, List, [], ◌∷◌, length, refl, sym, ap, ◌∙◌, inl, inr, arith, cond, Option, Some, None}
 use Rattle.std.proofs.Common.{Result, Ok, Err, IfErr, is_none}
 use Rattle.std.proofs.lemmas.Cmp.{nat_list_cmp_total}
 use Rattle.std.proofs.lemmas.List.{take_all}
 use Rattle.std.proofs.lemmas.Result.{IfErr-weaker}
 use Rattle.std.specs.Cmp.Lexicographic.{texts_ties}
 use Rattle.std.specs.FinMap.{get, insert, get-insert}
+use Rattle.std.specs.Option.{option_to_list}
+use Rattle.std.specs.Str.{bytes_eq}
 use Rattle.ntfs_base.specs.Causes.{HaveNotFallen, Rose}
 use Rattle.ntfs_base.specs.Frames.{Because, IsSettled, ◌>>=◌}
 use Rattle.ntfs_base.specs.Shelf.{Files, IsCreated, added_count, after_create, after_release, file_of}
@@ -17,7 +19,7 @@ use Rattle.ntfs_clone.specs.Copying.{whole}
 use Rattle.ntfs_run.specs.Clone.{IsPartSaved, LeavesOutput, saved_bytes, saved_in}
 use Rattle.ntfs_run.specs.Filling.{IsCutOff, IsFilled, OutputRefuses}
 use Rattle.ntfs_run.specs.Make.{LeavesFile}
-use Rattle.ntfs_run.specs.Outcome.{Ends, KeepsOthers, MakesFiles, Outcome, may_make, outcome_of, refused_with, status_of, status_origin}
+use Rattle.ntfs_run.specs.Outcome.{Ends, KeepsFilesBut, KeepsOtherFiles, MakesFiles, Outcome, may_make, outcome_of, refused_with, status_of, status_origin}
 use Rattle.ntfs_run.specs.declared.status.Status.{Status}
 use Rattle.ntfs_run.specs.declared.status.Status.TheVariants as status
 use Rattle.ntfs_run.proofs.MakeLemmas.{created-told, released_attached}
@@ -30,21 +32,35 @@ other_of false put here is = refl
 other_of true put here is = absurd cc
 
 -- a file of another name is as before
-pub others_kept : (old new : Files) (output bytes : List ℕ) → new ≡ insert old output bytes → KeepsOthers (Some output) old new
+pub others_kept : (old new : Files) (output bytes : List ℕ) → new ≡ insert old output bytes → KeepsOtherFiles (Some output) old new
 others_kept old new output bytes is = λ name apart.
     ap (λ files. file_of files name) is ∙ get-insert nat_list_cmp_total old output bytes name
     ∙ other_of _ (Some bytes) (get old name) (sym (texts_ties name output) ∙ apart)
 
-pub others_same : (output : Option (List ℕ)) (old new : Files) → new ≡ old → KeepsOthers output old new
+pub others_same : (output : Option (List ℕ)) (old new : Files) → new ≡ old → KeepsOtherFiles output old new
 others_same None old new is = is
 others_same (Some output) old new is = λ name apart. ap (λ files. file_of files name) is
 
 -- a volume that is made leaves them so
-pub made_others : (name : List ℕ) (seed clusters cluster : ℕ) (old new : Files) → LeavesFile name seed clusters cluster old new → KeepsOthers (Some name) old new
+pub made_others : (name : List ℕ) (seed clusters cluster : ℕ) (old new : Files) → LeavesFile name seed clusters cluster old new → KeepsOtherFiles (Some name) old new
 made_others name seed clusters cluster old new left = elim left [
   | inl same ↦ others_same (Some name) old new same
   | inr made ↦ others_kept old new name made.0 made.2
 ]
+
+-- files that are as before, for a list of names
+pub files_same : (names : List (List ℕ)) (old new : Files) → new ≡ old → KeepsFilesBut names old new
+files_same [] old new is = is
+files_same (first ∷ rest) old new is = λ name apart. ap (λ files. file_of files name) is
+
+apart_one : (b : Bool) → (b || false) ≡ false → b ≡ false
+apart_one true is = absurd cc
+apart_one false is = refl
+
+-- one file that is made, or none, as a list
+pub files_kept : (output : Option (List ℕ)) (old new : Files) → KeepsOtherFiles output old new → KeepsFilesBut (option_to_list output) old new
+files_kept None old new is = is
+files_kept (Some output) old new is = λ name apart. is name (apart_one (bytes_eq name output) apart)
 
 -- a file that was made, filled and released
 pub made_released : {S F : Type 0} {fresh : Bool} (s : shelf.Ghosts S F) (f : image.Ghosts F) (has : Status → Type 0) (read : Type 0) (old held new : S)

@@ -1,5 +1,5 @@
 -- What the answer of a tool says of the program's reply.
-use Rattle.std.proofs.Common.{◌≡◌, ◌≤◌, ℕ, Bool, true, false, IsTrue, List, [], refl, sym, ap, subst, ◌∙◌, Result, Ok, Err, Option, Some, None}
+use Rattle.std.proofs.Common.{◌≡◌, ◌≤◌, ℕ, Bool, true, false, IsTrue, List, [], ◌∷◌, refl, sym, ap, subst, ◌∙◌, Result, Ok, Err, Option, Some, None}
 use Rattle.std.proofs.Common.{IfErr, IfOk, OnOk, is_ok, inl, inr, length, arith}
 use Rattle.std.proofs.Math.Seq.{take-nil}
 use Rattle.std.proofs.lemmas.List.{take_all}
@@ -31,13 +31,14 @@ use Rattle.ntfs_run.specs.Info.{GeometryRefuses, RecordRefuses}
 use Rattle.ntfs_run.specs.Ls.{ListRefuses}
 use Rattle.ntfs_run.specs.Make.{MakeRefuses}
 use Rattle.ntfs_base.proofs.SinkLemmas.{after_put-nil}
-use Rattle.ntfs_run.specs.Outcome.{Does, IfDone, IfInput, IfNone, KeepsOthers, MayReadInput, Outcome, TakesInput, refused_with, status_of, status_origin, words_status}
+use Rattle.ntfs_run.specs.Outcome.{Does, IfDone, IfInput, IfNoneMade, KeepsFilesBut, MayReadInput, Outcome, TakesInput, refused_with, status_of, status_origin, words_status}
 use Rattle.ntfs_run.specs.Message.{line_for, message_for, message_of}
 use Rattle.ntfs_run.specs.Reply.{CanAnswer, CanRefuse, LeavesFiles, PutsIfCat, PutsMessage, Replies, RequestRefuses}
-use Rattle.ntfs_run.specs.Reply.{outcome_for, output_of, reads_input, reply}
+use Rattle.ntfs_run.specs.Reply.{outcome_for, outputs_of, reads_input, reply}
+use Rattle.ntfs_run.specs.Trial.{TrialRefuses}
 use Rattle.ntfs_run.proofs.CatLemmas.{puts_stream}
-use Rattle.ntfs_run.proofs.HeadlineLemmas.{clones_done, no_clones}
-use Rattle.ntfs_run.proofs.OutputLemmas.{leaves_same, others_same}
+use Rattle.ntfs_run.proofs.OutputLemmas.{files_same, leaves_same}
+use Rattle.ntfs_run.proofs.PromiseLemmas.{no_promise, promise_kept}
 use Rattle.ntfs_run.specs.declared.status.Status.{Status}
 use Rattle.ntfs_run.specs.declared.status.Status.TheVariants as status
 
@@ -89,6 +90,11 @@ save_other force output overwrite status.Done is = is
 save_other force output overwrite (status.Usage kind) is = is
 save_other force output overwrite other is = tt
 
+trial_other : (fault : Status) → TrialRefuses fault → IsOther fault
+trial_other status.Done is = is
+trial_other (status.Usage kind) is = is
+trial_other other is = tt
+
 is_other : (request : Request) (fault : Status) → is_standing (tool_for request) ≡ true → RequestRefuses request fault → IsOther fault
 is_other (request.Info mft None image) fault built is = geometry_other fault is
 is_other (request.Info mft (Some number) image) fault built is = record_other fault is
@@ -98,6 +104,7 @@ is_other (request.Cluster question image) fault built is = cluster_other fault i
 is_other (request.Clone save true no_action force output overwrite source) fault built is = restore_other output overwrite source fault is
 is_other (request.Clone save false no_action force output overwrite source) fault built is = save_other force output overwrite fault is
 is_other (request.Make file seed clusters cluster) fault built is = make_other fault is
+is_other (request.Trial seed name) fault built is = trial_other fault is
 is_other other fault built is = absurd cc
 
 usage_of : (refusal : WordsFault) (kind : UsageKind) → words_status refusal ≡ status.Usage kind → refusal ≡ words_fault.Usage kind
@@ -187,11 +194,11 @@ pub record Answered {S F I O : Type 0} (s : shelf.Ghosts S F) (i : source.Ghosts
   pub does : IfFiles s old (λ files. IfInput i (reads_input reading) in_old (λ bytes.
       Does (outcome_for reading files bytes) (status_of result) (o.seen out_old) (o.seen out_new) (s.seen new).files))
   pub left : IfFiles s old (λ files. IfInput i (reads_input reading) in_old (λ bytes. LeavesFiles reading files bytes (s.seen new).files))
-  pub others : IfFiles s old (λ files. KeepsOthers (output_of reading) files (s.seen new).files)
+  pub others : IfFiles s old (λ files. KeepsFilesBut (outputs_of reading) files (s.seen new).files)
   pub input : TakesInput i (reads_input reading) (status_of result) in_old in_new
   pub runs : MayReadInput s i o (CanRefuse reading) old new in_old in_new out_old out_new result
   pub taken : OnOk result (is_ok reading ≡ true)
-  pub shows : IfNone (output_of reading) (s.seen new ≡ s.seen old)
+  pub shows : IfNoneMade (outputs_of reading) (s.seen new ≡ s.seen old)
 
 -- all of it, for words that were read or refused
 settled : {S F I O E T : Type 0} (s : shelf.Ghosts S F) (i : source.Ghosts I) (o : sink.Ghosts O) (e : sink.Ghosts E) (words : List (List ℕ))
@@ -210,7 +217,7 @@ settled s i o e words reading old new in_old in_new out_old out_new err_old err_
       does = told.does;
       line = λ files input settled. ap (message_of words) ((told.does files input).status settled);
       left = told.left;
-      clones = λ files input. clones_done (request_in words) (status_of result) _ _ (to_come (i.seen in_old)) _ _ (told.does files input);
+      promise = λ files input. promise_kept (request_in words) (status_of result) _ _ (to_come (i.seen in_old)) _ _ (told.does files input);
       stream = λ files. puts_stream (request_in words) (status_of result) _ _ (to_come (i.seen in_old)) (IsTrue (i.seen in_old).is_told) _ _ (told.does files);
       others = told.others;
       usage = usage_only (request_in words) result stands told.runs.refusal;
@@ -257,11 +264,12 @@ same_left : (reading : Result Request WordsFault) (old new : Files) (input : Lis
 same_left (Ok (request.Make file seed clusters cluster)) old new input is = inl is
 same_left (Ok (request.Clone save true no_action force output overwrite source)) old new input is = leaves_same output overwrite _ old new is
 same_left (Ok (request.Clone save false no_action force output overwrite source)) old new input is = leaves_same output overwrite _ old new is
+same_left (Ok (request.Trial seed name)) old new input is = inl (inl is)
 same_left other old new input is = is
 
-same_shelf : (output : Option (List ℕ)) (P : Type 0) → P → IfNone output P
-same_shelf None P is = is
-same_shelf (Some output) P is = tt
+same_shelf : (names : List (List ℕ)) (P : Type 0) → P → IfNoneMade names P
+same_shelf [] P is = is
+same_shelf (first ∷ rest) P is = tt
 
 -- an input that isn't read
 same_input : {I : Type 0} (i : source.Ghosts I) (is_read : Bool) (old new : I) → i.seen new ≡ i.seen old → i.faults old ≤ i.faults new
@@ -292,9 +300,9 @@ unread s i o e words old new in_old in_new out_old out_new err_old err_new resul
       does = λ told input. cut_off _ _ _ _ _ (status_of result) is (answered.does told (λ reads. absurd cc));
       line = λ told input settled. absurd settled;
       left = λ told input. same_left (request_in words) _ _ _ (answered.left told (λ reads. absurd cc));
-      clones = λ told input. no_clones (request_in words) _ _ _ _ _;
+      promise = λ told input. no_promise (request_in words) _ _ _ _ _;
       stream = λ told. no_stream (request_in words) _ _ _;
-      others = λ told. others_same (output_of (request_in words)) _ _ (answered.others told);
+      others = λ told. files_same (outputs_of (request_in words)) _ _ (answered.others told);
       usage = λ kind is. absurd cc;
       refused = λ kind is. inr refl;
       listed = wanting (tool_in words) (request_in words) kinds;
@@ -304,7 +312,7 @@ unread s i o e words old new in_old in_new out_old out_new err_old err_new resul
       input = same_input i (reads_input (request_in words)) in_old in_new (answered.input.kept refl) answered.input.counts;
       told = answered.runs.told;
       detached = answered.runs.detached;
-      shows = same_shelf (output_of (request_in words)) _ answered.shows;
+      shows = same_shelf (outputs_of (request_in words)) _ answered.shows;
       counts = answered.runs.counts;
       puts = answered.runs.puts;
     }

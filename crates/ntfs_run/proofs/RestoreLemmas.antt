@@ -17,7 +17,7 @@ use Rattle.ntfs_clone.specs.Taking.{HasGiven, to_come}
 use Rattle.ntfs_clone.specs.declared.fault.CloneFault.{CloneFault}
 use Rattle.ntfs_clone.specs.declared.fault.CloneFault.TheVariants.{BadClone}
 use Rattle.ntfs_clone.specs.declared.header.CloneHeader.{CloneHeader}
-use Rattle.ntfs_run.specs.Clone.{ImageRefuses, LeavesOutput, RestoreRefuses, clone_bytes, end_of, restore_work, restored_by, restored_image, restored_in, restored_into}
+use Rattle.ntfs_run.specs.Clone.{ImageRefuses, LeavesOutput, RestoreRefuses, clone_bytes, restore_end, restore_work, restored_by, restored_image, restored_in, restored_into}
 use Rattle.ntfs_run.specs.Filling.{CloneRefuses, FileRefuses, IsRestoredAs}
 use Rattle.ntfs_run.specs.Outcome.{Ends, Outcome, clone_status, may_make, outcome_or, refused_with, status_of, status_origin}
 use Rattle.ntfs_run.specs.declared.status.Status.{Status}
@@ -74,7 +74,7 @@ content_as header rest content (Err fault) gives is refusal settled =
 
 abbrev made_outcome : CloneHeader → List ℕ → List ℕ → Files → Outcome
 made_outcome header rest output files = record {
-  status = end_of (clone_commands header rest);
+  status = restore_end (clone_commands header rest);
   output = [];
   files = insert files output (restored_by header rest (clone_commands header rest));
 }

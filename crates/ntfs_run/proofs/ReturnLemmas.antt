@@ -12,8 +12,8 @@ use Rattle.ntfs_base.specs.declared.shelf.Shelf as shelf
 use Rattle.ntfs_base.proofs.AttachLemmas.{after_release-attached, has_name-attached, insert-same}
 use Rattle.ntfs_base.proofs.ShelfLemmas.{name_same, same_name}
 use Rattle.ntfs_words.specs.Clone.{are_same}
-use Rattle.ntfs_run.specs.Clone.{AreFree}
-use Rattle.ntfs_run.specs.Outcome.{IfNone, KeepsOthers, MakesFiles, status_origin}
+use Rattle.ntfs_run.specs.Clone.{IsDetached}
+use Rattle.ntfs_run.specs.Outcome.{IfNone, KeepsOtherFiles, MakesFiles, status_origin}
 use Rattle.ntfs_run.specs.declared.status.Status.{Status}
 use Rattle.ntfs_run.proofs.ToolLemmas.{because_map, rose_released}
 
@@ -64,13 +64,13 @@ is_free source output old held none attached apart =
     one_name output source held.attached (ap (λ shelf. shelf.attached) attached ∙ names_attached source old ∙ ap (λ names. source ∷ names) none) apart
 
 pub are_free : (source : List ℕ) (output : Option (List ℕ)) (old held : ShelfState) → old.attached ≡ [] → held ≡ after_attach source old
-    → are_same (Some source) output ≡ false → AreFree output held.attached
+    → are_same (Some source) output ≡ false → IsDetached output held.attached
 unfolding are_same
 are_free source None old held none attached apart = tt
 are_free source (Some output) old held none attached apart = is_free source output old held none attached apart
 
 -- a file that isn't the one that is made has its bytes
-pub others_at : (output : Option (List ℕ)) (name : List ℕ) (old new : Files) → are_same (Some name) output ≡ false → KeepsOthers output old new
+pub others_at : (output : Option (List ℕ)) (name : List ℕ) (old new : Files) → are_same (Some name) output ≡ false → KeepsOtherFiles output old new
     → file_of new name ≡ file_of old name
 unfolding are_same
 others_at None name old new apart is = ap (λ files. file_of files name) is

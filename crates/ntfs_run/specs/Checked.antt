@@ -6,13 +6,13 @@ use Rattle.ntfs_check.specs.Findings.{examined}
 use Rattle.ntfs_rules.specs.VolumeData.{volume_data}
 use Rattle.ntfs_volume.specs.Opened.{opened_of}
 use Rattle.ntfs_run.specs.Outcome.{check_status, volume_status}
-use Rattle.ntfs_run.specs.declared.checked.Checked.{Checked}
+use Rattle.ntfs_run.specs.declared.checked.Accepted.{Accepted}
 use Rattle.ntfs_run.specs.declared.status.Status.{Status}
 use Rattle.ntfs_run.specs.declared.status.Status.TheVariants as status
 
 -- the volume of an image that opens and keeps all sixteen rules, with what is found of it; else the first rule that it
 -- breaks
-unfoldable pub checked_of : List ℕ → Result Checked Status
+unfoldable pub checked_of : List ℕ → Result Accepted Status
 checked_of image = do
   table ← refused_as volume_status (opened_of image)
   findings ← refused_as check_status (examined (volume_data table (cluster_at image table.geometry.cluster)))

@@ -17,14 +17,14 @@ use Rattle.ntfs_clone.specs.declared.fault.CloneFault.{CloneFault}
 use Rattle.ntfs_clone.specs.declared.header.CloneHeader.{CloneHeader}
 use Rattle.ntfs_run.specs.Checked.{checked_of}
 use Rattle.ntfs_run.specs.Outcome.{Outcome, Work, clone_status, may_make, status_of}
-use Rattle.ntfs_run.specs.declared.checked.Checked.{Checked}
+use Rattle.ntfs_run.specs.declared.checked.Accepted.{Accepted}
 use Rattle.ntfs_run.specs.declared.status.Status.{Status}
 use Rattle.ntfs_run.specs.declared.status.Status.TheVariants as status
 
 -- ---- saving and copying
 
 -- what of an image of these bytes is saved or copied, once its volume was checked
-abbrev pub volume_in : Checked → List ℕ → Volume
+abbrev pub volume_in : Accepted → List ℕ → Volume
 volume_in checked image = volume_of checked.table.geometry checked.findings.owned image
 
 -- the volume of an image that is saved or copied: it keeps all rules, and isn't dirty, unless that is forced
@@ -86,8 +86,8 @@ clone_bytes None files input = Ok input
 clone_bytes (Some name) files input = ok_or (file_of files name) (status.Absent named.Source)
 
 -- how a restore ends, by the commands that were read or the first that is wrong
-abbrev pub end_of : Result (List Command) CloneFault → Status
-end_of commands = status_of (refused_as clone_status (emptied commands))
+abbrev pub restore_end : Result (List Command) CloneFault → Status
+restore_end commands = status_of (refused_as clone_status (emptied commands))
 
 -- what it leaves: the volume, or what stands before the command that is wrong
 abbrev pub restored_by : CloneHeader → List ℕ → Result (List Command) CloneFault → List ℕ
@@ -99,7 +99,7 @@ abbrev pub restored_in : Named → List ℕ → Bool → CloneHeader → List �
 restored_in file output overwrite header rest files = do
   free ← may_make file overwrite output files
   Ok (record {
-    status = end_of (clone_commands header rest);
+    status = restore_end (clone_commands header rest);
     output = [];
     files = insert files output (restored_by header rest (clone_commands header rest));
   })
@@ -107,7 +107,7 @@ restored_in file output overwrite header rest files = do
 -- in the file that is named; with none it is only read
 abbrev pub restored_into : Option (List ℕ) → Bool → CloneHeader → List ℕ → Files → Result Outcome Status
 restored_into None overwrite header rest files =
-    Ok (record { status = end_of (clone_commands header rest); output = []; files = files })
+    Ok (record { status = restore_end (clone_commands header rest); output = []; files = files })
 restored_into (Some output) overwrite header rest files = restored_in named.Output output overwrite header rest files
 
 -- a clone image of these bytes, whose header is read before a file is made
@@ -225,6 +225,6 @@ PutRefuses force other = VolumeRefuses force other
 -- ---- names
 
 -- the file that is made isn't attached
-abbrev pub AreFree : Option (List ℕ) → List (List ℕ) → Type 0
-AreFree None attached = Unit {0}
-AreFree (Some output) attached = has_name output attached ≡ false
+abbrev pub IsDetached : Option (List ℕ) → List (List ℕ) → Type 0
+IsDetached None attached = Unit {0}
+IsDetached (Some output) attached = has_name output attached ≡ false

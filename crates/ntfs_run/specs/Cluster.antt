@@ -9,7 +9,7 @@ use Rattle.ntfs_volume.specs.Opened.{Opened}
 use Rattle.ntfs_words.specs.declared.request.Ask.{Ask}
 use Rattle.ntfs_words.specs.declared.request.Ask.TheVariants as ask
 use Rattle.ntfs_run.specs.Outcome.{show_status}
-use Rattle.ntfs_run.specs.Place.{number_at}
+use Rattle.ntfs_run.specs.Place.{path_number}
 use Rattle.ntfs_run.specs.declared.status.Status.{Status}
 use Rattle.ntfs_run.specs.declared.status.Status.TheVariants as status
 
@@ -19,7 +19,7 @@ query_of ask.Info volume image = Ok query.Info
 query_of (ask.Clusters from to) volume image = Ok (query.Clusters from to)
 query_of (ask.Number number) volume image = Ok (query.Number number)
 query_of (ask.Path path) volume image = do
-  number ← number_at path volume image
+  number ← path_number path volume image
   Ok (query.Number number)
 
 -- the lines for a volume, whose image has these bytes

@@ -26,7 +26,7 @@ is_standing Clone = true
 is_standing Resize = false
 is_standing Fix = false
 is_standing Make = true
-is_standing Trial = false
+is_standing Trial = true
 
 -- the tool of a command line
 abbrev pub tool_in : List (List ℕ) → Option Tool
@@ -39,6 +39,6 @@ request_in words = do
   asked words
 
 -- the names of ntfsclone are those of two files
-abbrev pub AreApart : Request → Type 0
-AreApart (request.Clone save restore no_action force output overwrite source) = are_same source output ≡ false
-AreApart other = Unit {0}
+abbrev pub HasApartNames : Request → Type 0
+HasApartNames (request.Clone save restore no_action force output overwrite source) = are_same source output ≡ false
+HasApartNames other = Unit {0}

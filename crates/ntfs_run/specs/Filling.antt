@@ -40,7 +40,7 @@ pub record Fills {G F : Type 0} (g : image.Ghosts G) (f : image.Ghosts F) (old n
       (Rose (f.faults before).writes (f.faults after).writes) (Unit {0}))
 
 -- a call over a source, and a file that is written and may be read
-pub record Restores {I F : Type 0} (i : source.Ghosts I) (f : image.Ghosts F) (old new : I) (before after : F)
+pub record RestoresFrom {I F : Type 0} (i : source.Ghosts I) (f : image.Ghosts F) (old new : I) (before after : F)
     (result : Result (Unit {0}) Status) : Type 0 where
   pub takes : i.faults old ≤ i.faults new
   pub bears : (f.seen after).name ≡ (f.seen before).name

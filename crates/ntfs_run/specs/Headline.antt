@@ -1,5 +1,5 @@
 -- What ntfsclone promises of images that are accepted: whose clone image is saved, what that restores, and what a raw
--- copy has. The words are ours.
+-- copy has; and ntfstrial of its three files. The words are ours.
 use Rattle.std.specs.Prelude.{◌≡◌, true, false, List, ℕ, Option, Some, None, Result, Ok}
 use Rattle.ntfs_base.specs.Shelf.{Files, file_of}
 use Rattle.ntfs_base.specs.Sink.{SinkState, after_put}
@@ -11,6 +11,7 @@ use Rattle.ntfs_words.specs.declared.request.Request.{Request}
 use Rattle.ntfs_words.specs.declared.request.Request.TheVariants as request
 use Rattle.ntfs_words.specs.declared.request.WordsFault.{WordsFault}
 use Rattle.ntfs_run.specs.Clone.{clone_bytes}
+use Rattle.ntfs_run.specs.Trial.{back_name, clone_name, trial_image}
 use Rattle.ntfs_run.specs.declared.status.Status.{Status}
 use Rattle.ntfs_run.specs.declared.status.Status.TheVariants as status
 
@@ -61,14 +62,29 @@ pub record RestoresFile (source : Option (List ℕ)) (output : List ℕ) (old : 
   pub made : file_of new output ≡ Some copy
   pub restored : (image : List ℕ) → IsCloneOf image clone → IsCopyOf image copy
 
--- where ntfsclone has done its work
-abbrev pub ClonesIfDone : Result Request WordsFault → Status → Files → List ℕ → SinkState → Files → SinkState → Type 0
-ClonesIfDone (Ok (request.Clone true false no_action force (Some output) overwrite (Some source))) status.Done old input before new after =
+-- the files of a trial: the volume of its seed, which breaks no rule, its clone image, and the same volume restored
+pub record TriesVolume (seed : ℕ) (name : List ℕ) (new : Files) : Type 0 where
+  pub clone : List ℕ
+  pub back : List ℕ
+  pub made : file_of new name ≡ Some (trial_image seed)
+  pub saved : file_of new (clone_name name) ≡ Some clone
+  pub restored : file_of new (back_name name) ≡ Some back
+  pub is_clone : IsCloneOf (trial_image seed) clone
+  pub is_copy : IsCopyOf (trial_image seed) back
+
+-- what a tool promises beyond its outcome, where it has done its work
+abbrev pub Promises : Result Request WordsFault → Status → Files → List ℕ → SinkState → Files → SinkState → Type 0
+Promises (Ok (request.Clone true false no_action force (Some output) overwrite (Some source)))
+    status.Done old input before new after =
     SavesFile source output old new
-ClonesIfDone (Ok (request.Clone true false no_action force None overwrite (Some source))) status.Done old input before new after =
+Promises (Ok (request.Clone true false no_action force None overwrite (Some source)))
+    status.Done old input before new after =
     SavesOutput source old before after
-ClonesIfDone (Ok (request.Clone false false no_action force (Some output) overwrite (Some source))) status.Done old input before new after =
+Promises (Ok (request.Clone false false no_action force (Some output) overwrite (Some source)))
+    status.Done old input before new after =
     CopiesFile source output old new
-ClonesIfDone (Ok (request.Clone save true no_action force (Some output) overwrite source)) status.Done old input before new after =
+Promises (Ok (request.Clone save true no_action force (Some output) overwrite source))
+    status.Done old input before new after =
     RestoresFile source output old input new
-ClonesIfDone reading other old input before new after = Unit {0}
+Promises (Ok (request.Trial seed name)) status.Done old input before new after = TriesVolume seed name new
+Promises reading other old input before new after = Unit {0}

@@ -16,6 +16,8 @@ pub mod Make
 pub mod Checked
 pub mod Clone
 pub mod Filling
+pub mod Trial
+pub mod Job
 pub mod Headline
 pub mod Command
 pub mod Message

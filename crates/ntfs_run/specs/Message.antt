@@ -132,13 +132,39 @@ file_named (request.Cluster ask image) named.Image = image
 file_named (request.Clone save restore no_action force output overwrite source) named.Source = unwrap_or source []
 file_named (request.Clone save restore no_action force output overwrite source) named.Output = unwrap_or output []
 file_named (request.Make file seed clusters cluster) named.Output = file
+file_named (request.Trial seed name) named.Output = name
+file_named (request.Trial seed name) named.Clone = name ++ codes ".clone"
+file_named (request.Trial seed name) named.Back = name ++ codes ".back"
 file_named request other = []
+
+-- the word of a request that such a name begins with: the name itself, but for the second and third file of ntfstrial
+abbrev pub word_named : Request → Named → List ℕ
+word_named (request.Trial seed name) named.Clone = name
+word_named (request.Trial seed name) named.Back = name
+word_named request file = file_named request file
+
+-- what stands behind that word
+abbrev pub end_named : Request → Named → List ℕ
+end_named (request.Trial seed name) named.Clone = codes ".clone"
+end_named (request.Trial seed name) named.Back = codes ".back"
+end_named request file = []
 
 -- the name that a status speaks of, for words that were read so
 abbrev pub name_in : Result Request WordsFault → Status → List ℕ
 name_in (Ok request) (status.Absent file) = file_named request file
 name_in (Ok request) (status.Present file) = file_named request file
 name_in reading other = []
+
+-- its two pieces
+abbrev pub word_in : Result Request WordsFault → Status → List ℕ
+word_in (Ok request) (status.Absent file) = word_named request file
+word_in (Ok request) (status.Present file) = word_named request file
+word_in reading other = []
+
+abbrev pub end_in : Result Request WordsFault → Status → List ℕ
+end_in (Ok request) (status.Absent file) = end_named request file
+end_in (Ok request) (status.Present file) = end_named request file
+end_in reading other = []
 
 -- the line for a status
 unfoldable pub line_for : Option Tool → Result Request WordsFault → Status → List ℕ

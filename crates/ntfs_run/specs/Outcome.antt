@@ -1,13 +1,13 @@
 -- What a tool does: a status, what it puts on the output, and the files afterwards. And how its answer is tied to that.
 -- The words are ours.
-use Rattle.std.specs.Prelude.{◌≡◌, ◌≤◌, ◌⊎◌, ◌||◌, ℕ, Bool, true, false, List, [], Option, Some, None, Result, Ok, Err}
-use Rattle.std.specs.Prelude.{OnOk, IfErr, IsTrue}
+use Rattle.std.specs.Prelude.{◌≡◌, ◌≤◌, ◌⊎◌, ◌||◌, ◌∷◌, ℕ, Bool, true, false, List, [], Option, Some, None}
+use Rattle.std.specs.Prelude.{Result, Ok, Err, OnOk, IfErr, IsTrue}
 use Rattle.std.specs.Option.{is_none}
 use Rattle.std.specs.Str.{bytes_eq}
 use Rattle.ntfs_base.specs.Causes.{HaveNotFallen, Rose}
 use Rattle.ntfs_base.specs.Frames.{Because, IsSettled, Origin, PutsPrefix, SinkHasNotFallen, content, reading, writing}
 use Rattle.ntfs_base.specs.Frames.{memory, must}
-use Rattle.ntfs_base.specs.Shelf.{Files, file_of}
+use Rattle.ntfs_base.specs.Shelf.{Files, file_of, has_name}
 use Rattle.ntfs_base.specs.Sink.{SinkState, after_put}
 use Rattle.ntfs_base.specs.declared.fault.PutFault.{PutFault}
 use Rattle.ntfs_base.specs.declared.fault.PutFault.TheVariants as put
@@ -235,7 +235,8 @@ IfDone other is = Unit {0}
 abbrev pub IfInput : {I : Type 0} → source.Ghosts I → Bool → I → (List ℕ → Type 0) → Type 0
 IfInput i reads input is = (reads ≡ true → IsTrue (i.seen input).is_told) → is (to_come (i.seen input))
 
--- what a call takes of an input, which it reads or not: one that isn't read stays as it was; else a front of what it has
+-- what a call takes of an input, which it reads or not: one that isn't read stays as it was; else a front of what
+-- it has
 -- still to give is given, and all of it where the work was done
 pub record TakesInput {I : Type 0} (i : source.Ghosts I) (is_read : Bool) (result : Status) (old new : I) : Type 0 where
   pub kept : is_read ≡ false → i.seen new ≡ i.seen old
@@ -246,22 +247,34 @@ pub record TakesInput {I : Type 0} (i : source.Ghosts I) (is_read : Bool) (resul
 -- ---- files that are made
 
 -- no file differs but the one that is named
-abbrev pub KeepsOthers : Option (List ℕ) → Files → Files → Type 0
-KeepsOthers None old new = new ≡ old
-KeepsOthers (Some output) old new = (name : List ℕ) → bytes_eq name output ≡ false → file_of new name ≡ file_of old name
+abbrev pub KeepsOtherFiles : Option (List ℕ) → Files → Files → Type 0
+KeepsOtherFiles None old new = new ≡ old
+KeepsOtherFiles (Some output) old new =
+    (name : List ℕ) → bytes_eq name output ≡ false → file_of new name ≡ file_of old name
 
 -- of a shelf for which no file may be made, also of one that doesn't tell its files
 abbrev pub IfNone : Option (List ℕ) → Type 0 → Type 0
 IfNone None unchanged = unchanged
 IfNone (Some output) unchanged = Unit {0}
 
+-- no file differs but those of these names
+abbrev pub KeepsFilesBut : List (List ℕ) → Files → Files → Type 0
+KeepsFilesBut [] old new = new ≡ old
+KeepsFilesBut (first ∷ rest) old new =
+    (name : List ℕ) → has_name name (first ∷ rest) ≡ false → file_of new name ≡ file_of old name
+
+-- of a shelf for which no file of any name may be made, also of one that doesn't tell its files
+abbrev pub IfNoneMade : List (List ℕ) → Type 0 → Type 0
+IfNoneMade [] unchanged = unchanged
+IfNoneMade (first ∷ rest) unchanged = Unit {0}
+
 -- status and files are those of the outcome, unless the work was cut off
 pub record Ends (outcome : Outcome) (result : Status) (left : Files) : Type 0 where
   pub status : IsSettled (status_origin result) → result ≡ outcome.status
   pub files : IsSettled (status_origin result) → left ≡ outcome.files
 
--- a call over a shelf that releases each file that it makes: names that were attached stay so, and a fault has its cause,
--- which may also be another one of a read
+-- a call over a shelf that releases each file that it makes: names that were attached stay so, and a fault has its
+-- cause, which may also be another one of a read
 pub record MakesFiles {S F : Type 0} (s : shelf.Ghosts S F) (has : Status → Type 0) (old new : S) (read : Type 0)
     (result : Result (Unit {0}) Status) : Type 0 where
   pub told : (s.seen new).is_told ≡ (s.seen old).is_told

@@ -10,13 +10,13 @@ use Rattle.ntfs_run.specs.declared.status.Status.{Status}
 use Rattle.ntfs_run.specs.declared.status.Status.TheVariants as status
 
 -- the number of the record that a path names in a volume, whose image has these bytes
-unfoldable pub number_at : List ℕ → Opened → List ℕ → Result ℕ Status
-number_at path volume image = refused_as path_status (path_of volume.geometry volume.map image path)
+unfoldable pub path_number : List ℕ → Opened → List ℕ → Result ℕ Status
+path_number path volume image = refused_as path_status (path_of volume.geometry volume.map image path)
 
 -- and of the record that is meant
 abbrev pub number_meant : Target → Opened → List ℕ → Result ℕ Status
 number_meant (target.Number number) volume image = Ok number
-number_meant (target.Path path) volume image = number_at path volume image
+number_meant (target.Path path) volume image = path_number path volume image
 
 -- the refusals to tell it
 abbrev pub IsUnmeant : Status → Type 0

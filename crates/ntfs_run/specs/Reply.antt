@@ -1,7 +1,7 @@
 -- What the program replies to the words of a command line, the files of the shelf and the bytes of the input. Each tool
 -- has a module of its own. The words are ours.
-use Rattle.std.specs.Prelude.{◌≡◌, ◌⊎◌, ℕ, Bool, true, false, List, [], Option, Some, None, Result, Ok, Err}
-use Rattle.std.specs.Option.{is_none}
+use Rattle.std.specs.Prelude.{◌≡◌, ◌⊎◌, ◌∷◌, ℕ, Bool, true, false, List, [], Option, Some, Result, Ok, Err}
+use Rattle.std.specs.Option.{is_none, option_to_list}
 use Rattle.ntfs_base.specs.Causes.{HaveNotFallen, Rose}
 use Rattle.ntfs_base.specs.Frames.{Because, IfFiles, IsSettled, PutsPrefix, SinkHasNotFallen}
 use Rattle.ntfs_base.specs.Shelf.{Files}
@@ -21,20 +21,21 @@ use Rattle.ntfs_words.specs.declared.tool.Tool.{Tool}
 use Rattle.ntfs_run.specs.Cat.{PutsStream, stream_name}
 use Rattle.ntfs_run.specs.Clone.{LeavesRestored, LeavesSaved, RestoreRefuses, SaveRefuses, restore_work, save_work}
 use Rattle.ntfs_run.specs.Command.{request_in, tool_in}
-use Rattle.ntfs_run.specs.Headline.{ClonesIfDone}
+use Rattle.ntfs_run.specs.Headline.{Promises}
 use Rattle.ntfs_run.specs.Make.{LeavesFile, MakeRefuses, make_work}
 use Rattle.ntfs_run.specs.Message.{file_named, message_of}
-use Rattle.ntfs_run.specs.Outcome.{Does, IfDone, IfInput, IfNone, KeepsOthers, Outcome, TakesInput, outcome_of, outcome_or}
-use Rattle.ntfs_run.specs.Outcome.{refused_with, shows, status_origin, words_status}
+use Rattle.ntfs_run.specs.Outcome.{Does, IfDone, IfInput, IfNoneMade, KeepsFilesBut, Outcome, TakesInput}
+use Rattle.ntfs_run.specs.Outcome.{outcome_of, outcome_or, refused_with, shows, status_origin, words_status}
 use Rattle.ntfs_run.specs.Show.{ShowRefuses, image_printing}
 use Rattle.ntfs_run.specs.Shown.{of_file}
+use Rattle.ntfs_run.specs.Trial.{LeavesTrial, TrialRefuses, trial_names, trial_outcome}
 use Rattle.ntfs_run.specs.declared.status.Status.{Status}
 use Rattle.ntfs_run.specs.declared.status.Status.TheVariants as status
 
 -- ---- an arm for each tool
 
--- what a request does, where the input has these bytes to give: ntfsmake makes, ntfsclone saves, copies and restores, the
--- others show
+-- what a request does, where the input has these bytes to give: ntfsmake makes, ntfsclone saves, copies and restores,
+-- ntfstrial makes, saves and restores, the others show
 abbrev pub request_outcome : Request → Files → List ℕ → Outcome
 request_outcome (request.Make file seed clusters cluster) files input =
     outcome_of files (make_work file seed clusters cluster files)
@@ -42,6 +43,7 @@ request_outcome (request.Clone save true no_action force output overwrite source
     outcome_or files (restore_work output overwrite source files input)
 request_outcome (request.Clone save false no_action force output overwrite source) files input =
     outcome_of files (save_work save force output overwrite source files)
+request_outcome (request.Trial seed name) files input = trial_outcome seed name files
 request_outcome shown files input = shows files (of_file (file_named shown named.Image) files (image_printing shown))
 
 -- its refusals, once the words are taken
@@ -51,6 +53,7 @@ RequestRefuses (request.Clone save true no_action force output overwrite source)
     RestoreRefuses output overwrite source fault
 RequestRefuses (request.Clone save false no_action force output overwrite source) fault =
     SaveRefuses force output overwrite fault
+RequestRefuses (request.Trial seed name) fault = TrialRefuses fault
 RequestRefuses shown fault = ShowRefuses shown fault
 
 -- what any exit leaves of the files: a tool that only shows changes none
@@ -60,13 +63,15 @@ RequestLeaves (request.Clone save true no_action force output overwrite source) 
     LeavesRestored output overwrite source old input new
 RequestLeaves (request.Clone save false no_action force output overwrite source) old input new =
     LeavesSaved save force output overwrite source old new
+RequestLeaves (request.Trial seed name) old input new = LeavesTrial seed name old new
 RequestLeaves other old input new = new ≡ old
 
--- the file that a request may make
-abbrev pub made_by : Request → Option (List ℕ)
-made_by (request.Make file seed clusters cluster) = Some file
-made_by (request.Clone save restore no_action force output overwrite source) = output
-made_by other = None
+-- the names of the files that a request may make
+abbrev pub files_made_by : Request → List (List ℕ)
+files_made_by (request.Make file seed clusters cluster) = file ∷ []
+files_made_by (request.Clone save restore no_action force output overwrite source) = option_to_list output
+files_made_by (request.Trial seed name) = trial_names name
+files_made_by other = []
 
 -- a request that reads the input: a restore of a clone image that isn't read from a file
 abbrev pub takes_input : Request → Bool
@@ -89,9 +94,9 @@ abbrev pub LeavesFiles : Result Request WordsFault → Files → List ℕ → Fi
 LeavesFiles (Ok request) old input new = RequestLeaves request old input new
 LeavesFiles (Err fault) old input new = new ≡ old
 
-abbrev pub output_of : Result Request WordsFault → Option (List ℕ)
-output_of (Ok request) = made_by request
-output_of (Err fault) = None
+abbrev pub outputs_of : Result Request WordsFault → List (List ℕ)
+outputs_of (Ok request) = files_made_by request
+outputs_of (Err fault) = []
 
 abbrev pub reads_input : Result Request WordsFault → Bool
 reads_input (Ok request) = takes_input request
@@ -142,12 +147,12 @@ pub record Replies {S F I O E : Type 0} (s : shelf.Ghosts S F) (i : source.Ghost
       IsSettled (status_origin result) → message_of words result ≡ (reply words files input).message))
   pub left : IfFiles s old (λ files. IfInput i (reads_input (request_in words)) in_old (λ input.
       LeavesFiles (request_in words) files input (s.seen new).files))
-  pub clones : IfFiles s old (λ files. IfInput i (reads_input (request_in words)) in_old (λ input.
-      ClonesIfDone (request_in words) result files input (o.seen out_old) (s.seen new).files (o.seen out_new)))
+  pub promise : IfFiles s old (λ files. IfInput i (reads_input (request_in words)) in_old (λ input.
+      Promises (request_in words) result files input (o.seen out_old) (s.seen new).files (o.seen out_new)))
   -- where the shelf tells its files, whatever the input tells
   pub stream : IfFiles s old (λ files.
       PutsIfCat (request_in words) result files (o.seen out_old) (o.seen out_new))
-  pub others : IfFiles s old (λ files. KeepsOthers (output_of (request_in words)) files (s.seen new).files)
+  pub others : IfFiles s old (λ files. KeepsFilesBut (outputs_of (request_in words)) files (s.seen new).files)
   -- on every shelf: words are refused exactly where `request_in` refuses them, and with its kind, unless memory is
   -- wanting to read them; further statuses are those of the tool, and a fault has its cause
   pub usage : (kind : UsageKind) → result ≡ status.Usage kind → request_in words ≡ Err (words_fault.Usage kind)
@@ -165,6 +170,6 @@ pub record Replies {S F I O E : Type 0} (s : shelf.Ghosts S F) (i : source.Ghost
   -- what is told stays told, no name stays attached, and no count falls
   pub told : (s.seen new).is_told ≡ (s.seen old).is_told
   pub detached : (s.seen new).attached ≡ []
-  pub shows : IfNone (output_of (request_in words)) (s.seen new ≡ s.seen old)
+  pub shows : IfNoneMade (outputs_of (request_in words)) (s.seen new ≡ s.seen old)
   pub counts : HaveNotFallen (s.faults old) (s.faults new)
   pub puts : SinkHasNotFallen (o.faults out_old) (o.faults out_new)

@@ -19,12 +19,12 @@ asks_geometry (request.Info mft None image) = true
 asks_geometry other = false
 
 -- the requests that print
-abbrev pub is_shown : Request → Bool
-is_shown (request.Info mft number image) = true
-is_shown (request.Ls all numbers classify recursive system dos path image) = true
-is_shown (request.Cat place kind name image) = true
-is_shown (request.Cluster question image) = true
-is_shown other = false
+abbrev pub only_shows : Request → Bool
+only_shows (request.Info mft number image) = true
+only_shows (request.Ls all numbers classify recursive system dos path image) = true
+only_shows (request.Cat place kind name image) = true
+only_shows (request.Cluster question image) = true
+only_shows other = false
 
 -- what is printed of an opened volume, whose image has these bytes. No other request is taken
 unfoldable pub volume_printing : Request → Opened → List ℕ → Printing Status

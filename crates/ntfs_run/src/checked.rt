@@ -14,14 +14,14 @@ use std::alloc::Global;
 
 /// A volume that keeps all rules: where its records lie, and what was found of it.
 #[derive(Drop)]
-pub struct Checked {
+pub struct Accepted {
     pub table: Table,
     pub findings: Findings,
 }
 
 /// Opens the volume of an image and checks that it keeps all sixteen rules.
 #[tactic(auto, unfolding(crate::specs::Checked::checked_of))]
-pub fn check_volume<G: Image>(alloc: Global, image: &mut G) -> Result<Checked, Status>
+pub fn check_volume<G: Image>(alloc: Global, image: &mut G) -> Result<Accepted, Status>
     ensures gives { IfTold G.Image image.old (λ content.
         Gives status_origin (λ checked. checked) (checked_of content) result) }
     ensures held { IfOk result (λ checked. HasClusters (G.seen image.old).size checked.table) }
@@ -31,5 +31,5 @@ pub fn check_volume<G: Image>(alloc: Global, image: &mut G) -> Result<Checked, S
 {
     let table = read_table(alloc, image)?;
     let findings = examine(alloc, image, &table)?;
-    Ok(Checked { table, findings })
+    Ok(Accepted { table, findings })
 }

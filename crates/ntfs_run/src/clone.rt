@@ -11,15 +11,15 @@ ghost use Rattle.ntfs_clone.specs.Restored.{IsPartOf};
 ghost use Rattle.ntfs_clone.specs.Taking.{HasGiven, to_come};
 ghost use Rattle.ntfs_volume.specs.Opened.{HasClusters};
 ghost use Rattle.ntfs_words.specs.Clone.{are_same};
-ghost use Rattle.ntfs_run.specs.Clone.{AreFree, ImageRefuses, IsPartSaved, IsRestoredFrom, IsSavedFrom, LeavesOutput, LeavesRestored};
+ghost use Rattle.ntfs_run.specs.Clone.{IsDetached, ImageRefuses, IsPartSaved, IsRestoredFrom, IsSavedFrom, LeavesOutput, LeavesRestored};
 ghost use Rattle.ntfs_run.specs.Clone.{LeavesSaved, RestoreRefuses, PutRefuses, SaveRefuses, clone_put, clone_put_of, restore_work};
 ghost use Rattle.ntfs_run.specs.Clone.{restored_image, restored_in, restored_into, save_work, saved_image, saved_in, volume_in};
 ghost use Rattle.ntfs_run.specs.Filling.{FileRefuses, Fills, IsCutOff, IsFilled, OutputRefuses};
-ghost use Rattle.ntfs_run.specs.Outcome.{Does, Ends, IfInput, IfNone, KeepsOthers, MakesFiles, MayReadInput};
+ghost use Rattle.ntfs_run.specs.Outcome.{Does, Ends, IfInput, IfNone, KeepsOtherFiles, MakesFiles, MayReadInput};
 ghost use Rattle.ntfs_run.specs.Outcome.{MayWriteFiles, OnlyShows, TakesInput, outcome_of, outcome_or, status_of};
 ghost use Rattle.ntfs_run.specs.Outcome.{status_origin};
 
-use crate::checked::Checked;
+use crate::checked::Accepted;
 use crate::copying::copy_to_file;
 use crate::outside::{attach_file, create_file, flush};
 use crate::restoring::{read_clone_header, read_to_end, restore_to_file};
@@ -74,13 +74,14 @@ pub fn save_volume<S: Shelf, O: Sink>(
     requires apart { are_same request.now.source.now request.now.output.now ≡ false }
     ensures does { IfFiles S.Shelf shelf.old (λ files.
         let r = request.now in
-        Does (outcome_of files (save_work r.save r.force r.output.now r.overwrite r.source.now files)) (status_of result)
+        Does (outcome_of files (save_work r.save r.force r.output.now r.overwrite r.source.now files))
+        (status_of result)
         (O.seen out.old) (O.seen out.new) (S.seen shelf.new).files) }
     ensures left { IfFiles S.Shelf shelf.old (λ files.
         let r = request.now in
         LeavesSaved r.save r.force r.output.now r.overwrite r.source.now files (S.seen shelf.new).files) }
     ensures others { IfFiles S.Shelf shelf.old (λ files.
-        KeepsOthers request.now.output.now files (S.seen shelf.new).files) }
+        KeepsOtherFiles request.now.output.now files (S.seen shelf.new).files) }
     ensures shows { IfNone request.now.output.now (S.seen shelf.new ≡ S.seen shelf.old) }
     ensures runs { MayWriteFiles S.Shelf O.Sink
         (SaveRefuses request.now.force request.now.output.now request.now.overwrite) shelf.old shelf.new out.old out.new
@@ -155,7 +156,7 @@ fn save_named<S: Shelf>(
         let r = request.now in
         LeavesSaved r.save r.force (Some output.now) r.overwrite (Some source.now) files (S.seen shelf.new).files) }
     ensures others { IfFiles S.Shelf shelf.old (λ files.
-        KeepsOthers (Some output.now) files (S.seen shelf.new).files) }
+        KeepsOtherFiles (Some output.now) files (S.seen shelf.new).files) }
     ensures makes { MakesFiles S.Shelf (SaveRefuses request.now.force (Some output.now) request.now.overwrite)
         shelf.old shelf.new ⊥ result }
 {
@@ -182,7 +183,7 @@ fn save_image<G: Image, S: Shelf>(
         LeavesOutput (Some output.now) request.now.overwrite
         (IsSavedFrom request.now.save request.now.force content) files (S.seen shelf.new).files)) }
     ensures others { IfFiles S.Shelf shelf.old (λ files.
-        KeepsOthers (Some output.now) files (S.seen shelf.new).files) }
+        KeepsOtherFiles (Some output.now) files (S.seen shelf.new).files) }
     ensures seen { G.seen image.new ≡ G.seen image.old }
     ensures counts { HaveNotFallen (G.faults image.old) (G.faults image.new) }
     ensures makes { MakesFiles S.Shelf (SaveRefuses request.now.force (Some output.now) request.now.overwrite)
@@ -202,7 +203,7 @@ pub fn save_checked<G: Image, S: Shelf>(
     alloc: Global,
     save: bool,
     output: &Output,
-    checked: &Checked,
+    checked: &Accepted,
     image: &mut G,
     shelf: &mut S,
 ) -> Result<(), Status>
@@ -217,7 +218,7 @@ pub fn save_checked<G: Image, S: Shelf>(
         LeavesOutput (Some output.now.name.now) output.now.overwrite
         (IsPartSaved save (volume_in checked.now content)) files (S.seen shelf.new).files)) }
     ensures others { IfFiles S.Shelf shelf.old (λ files.
-        KeepsOthers (Some output.now.name.now) files (S.seen shelf.new).files) }
+        KeepsOtherFiles (Some output.now.name.now) files (S.seen shelf.new).files) }
     ensures seen { G.seen image.new ≡ G.seen image.old }
     ensures counts { HaveNotFallen (G.faults image.old) (G.faults image.new) }
     ensures makes { MakesFiles S.Shelf (OutputRefuses output.now.file output.now.overwrite)
@@ -233,7 +234,7 @@ pub fn save_checked<G: Image, S: Shelf>(
 fn fill<G: Image, F: HostFile>(
     alloc: Global,
     save: bool,
-    checked: &Checked,
+    checked: &Accepted,
     image: &mut G,
     mut file: F,
 ) -> (F, Result<(), Status>)
@@ -276,7 +277,7 @@ pub fn restore_clone<S: Shelf, I: Source, O: Sink>(
         let r = request.now in
         LeavesRestored r.output.now r.overwrite r.source.now files bytes (S.seen shelf.new).files)) }
     ensures others { IfFiles S.Shelf shelf.old (λ files.
-        KeepsOthers request.now.output.now files (S.seen shelf.new).files) }
+        KeepsOtherFiles request.now.output.now files (S.seen shelf.new).files) }
     ensures shows { IfNone request.now.output.now (S.seen shelf.new ≡ S.seen shelf.old) }
     ensures input { TakesInput I.Source (is_none request.now.source.now) (status_of result) input.old input.new }
     ensures runs { MayReadInput S.Shelf I.Source O.Sink
@@ -307,7 +308,7 @@ fn restore_named<S: Shelf>(
         LeavesRestored request.now.output.now request.now.overwrite (Some source.now) files []
         (S.seen shelf.new).files) }
     ensures others { IfFiles S.Shelf shelf.old (λ files.
-        KeepsOthers request.now.output.now files (S.seen shelf.new).files) }
+        KeepsOtherFiles request.now.output.now files (S.seen shelf.new).files) }
     ensures shows { IfNone request.now.output.now (S.seen shelf.new ≡ S.seen shelf.old) }
     ensures makes { MakesFiles S.Shelf
         (RestoreRefuses request.now.output.now request.now.overwrite (Some source.now)) shelf.old shelf.new ⊥ result }
@@ -326,7 +327,7 @@ fn restore_from<S: Shelf, I: Source>(
     shelf: &mut S,
     source: &mut I,
 ) -> Result<(), Status>
-    requires { AreFree request.now.output.now (S.seen shelf.old).attached }
+    requires { IsDetached request.now.output.now (S.seen shelf.old).attached }
     ensures ends { IfFiles S.Shelf shelf.old (λ files. IsTrue (I.seen source.old).is_told
         → let r = request.now in
         Ends (outcome_or files (restored_image r.output.now r.overwrite (to_come (I.seen source.old)) files))
@@ -335,7 +336,7 @@ fn restore_from<S: Shelf, I: Source>(
         → LeavesOutput request.now.output.now request.now.overwrite (IsRestoredFrom (to_come (I.seen source.old))) files
         (S.seen shelf.new).files) }
     ensures others { IfFiles S.Shelf shelf.old (λ files.
-        KeepsOthers request.now.output.now files (S.seen shelf.new).files) }
+        KeepsOtherFiles request.now.output.now files (S.seen shelf.new).files) }
     ensures shows { IfNone request.now.output.now (S.seen shelf.new ≡ S.seen shelf.old) }
     ensures end { OnOk result (IsTrue (I.seen source.old).is_told → to_come (I.seen source.new) ≡ []) }
     ensures kept { HasGiven (I.seen source.old) (I.seen source.new) }
@@ -356,7 +357,7 @@ fn restore_into<S: Shelf, I: Source>(
     source: &mut I,
 ) -> Result<(), Status>
     requires header { IsHeader header.now }
-    requires free { AreFree request.now.output.now (S.seen shelf.old).attached }
+    requires free { IsDetached request.now.output.now (S.seen shelf.old).attached }
     ensures ends { IfFiles S.Shelf shelf.old (λ files. IsTrue (I.seen source.old).is_told
         → let r = request.now in
         Ends (outcome_or files (restored_into r.output.now r.overwrite header.now (to_come (I.seen source.old)) files))
@@ -365,7 +366,7 @@ fn restore_into<S: Shelf, I: Source>(
         → LeavesOutput request.now.output.now request.now.overwrite
         (IsPartOf header.now (to_come (I.seen source.old))) files (S.seen shelf.new).files) }
     ensures others { IfFiles S.Shelf shelf.old (λ files.
-        KeepsOthers request.now.output.now files (S.seen shelf.new).files) }
+        KeepsOtherFiles request.now.output.now files (S.seen shelf.new).files) }
     ensures shows { IfNone request.now.output.now (S.seen shelf.new ≡ S.seen shelf.old) }
     ensures end { OnOk result (IsTrue (I.seen source.old).is_told → to_come (I.seen source.new) ≡ []) }
     ensures kept { HasGiven (I.seen source.old) (I.seen source.new) }
@@ -398,13 +399,14 @@ pub fn restore_behind<S: Shelf, I: Source>(
     requires free { has_name output.now.name.now (S.seen shelf.old).attached ≡ false }
     ensures ends { IfFiles S.Shelf shelf.old (λ files. IsTrue (I.seen source.old).is_told
         → let o = output.now in
-        Ends (outcome_or files (restored_in o.file o.name.now o.overwrite header.now (to_come (I.seen source.old)) files))
+        Ends (outcome_or files
+        (restored_in o.file o.name.now o.overwrite header.now (to_come (I.seen source.old)) files))
         (status_of result) (S.seen shelf.new).files) }
     ensures left { IfFiles S.Shelf shelf.old (λ files. IsTrue (I.seen source.old).is_told
         → LeavesOutput (Some output.now.name.now) output.now.overwrite
         (IsPartOf header.now (to_come (I.seen source.old))) files (S.seen shelf.new).files) }
     ensures others { IfFiles S.Shelf shelf.old (λ files.
-        KeepsOthers (Some output.now.name.now) files (S.seen shelf.new).files) }
+        KeepsOtherFiles (Some output.now.name.now) files (S.seen shelf.new).files) }
     ensures end { OnOk result (IsTrue (I.seen source.old).is_told → to_come (I.seen source.new) ≡ []) }
     ensures kept { HasGiven (I.seen source.old) (I.seen source.new) }
     ensures takes { I.faults source.old ≤ I.faults source.new }

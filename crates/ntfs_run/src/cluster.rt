@@ -6,7 +6,7 @@ ghost use Rattle.ntfs_volume.specs.Opened.{HasClusters};
 ghost use Rattle.ntfs_run.specs.Cluster.{ClusterRefuses, owner_lines, query_of};
 ghost use Rattle.ntfs_run.specs.Outcome.{show_status, status_origin};
 
-use crate::place::number_at;
+use crate::place::path_number;
 use crate::status::Status;
 use ntfs_base::{Image, Sink};
 use ntfs_show::{OwnerQuery, show_owners};
@@ -54,7 +54,7 @@ fn query_of<G: Image>(
         }),
         Ask::Number { number } => Ok(OwnerQuery::Number { number: *number }),
         Ask::Path { path } => {
-            let number = number_at(alloc, path.as_str(), image, table)?;
+            let number = path_number(alloc, path.as_str(), image, table)?;
             Ok(OwnerQuery::Number { number })
         }
     }

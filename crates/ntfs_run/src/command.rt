@@ -2,9 +2,9 @@
 ghost use Rattle.std.specs.Prelude.{◌≡◌, [], true, IfOk, OnOk, is_ok, map, string_bytes};
 ghost use Rattle.ntfs_base.specs.Frames.{IfFiles};
 ghost use Rattle.ntfs_words.specs.Answers.{HasRanges, tool_for};
-ghost use Rattle.ntfs_run.specs.Command.{AreApart, is_standing};
-ghost use Rattle.ntfs_run.specs.Outcome.{Does, IfInput, IfNone, KeepsOthers, MayReadInput, TakesInput, status_of};
-ghost use Rattle.ntfs_run.specs.Reply.{CanRefuse, LeavesFiles, Replies, outcome_for, output_of, reads_input};
+ghost use Rattle.ntfs_run.specs.Command.{HasApartNames, is_standing};
+ghost use Rattle.ntfs_run.specs.Outcome.{Does, IfInput, IfNoneMade, KeepsFilesBut, MayReadInput, TakesInput, status_of};
+ghost use Rattle.ntfs_run.specs.Reply.{CanRefuse, LeavesFiles, Replies, outcome_for, outputs_of, reads_input};
 
 use crate::clone::{RestoreRequest, SaveRequest, restore_clone, save_volume};
 use crate::make::{MakeRequest, make_file};
@@ -12,6 +12,7 @@ use crate::message::put_message;
 use crate::request::{read_request, tool_in};
 use crate::show::show;
 use crate::status::Status;
+use crate::trial::try_volume;
 use ntfs_base::{Shelf, Sink, Source, UsageKind};
 use ntfs_words::{Request, WordsFault};
 use std::alloc::Global;
@@ -50,19 +51,19 @@ fn answer<S: Shelf, I: Source, O: Sink>(
     requires attached { (S.seen shelf.old).attached ≡ [] }
     requires ranges { IfOk request.now HasRanges }
     requires stands { IfOk request.now (λ request. is_standing (tool_for request) ≡ true) }
-    requires apart { IfOk request.now AreApart }
+    requires apart { IfOk request.now HasApartNames }
     ensures does { IfFiles S.Shelf shelf.old (λ files. IfInput I.Source (reads_input request.now) input.old (λ bytes.
         Does (outcome_for request.now files bytes) (status_of result) (O.seen out.old) (O.seen out.new)
         (S.seen shelf.new).files)) }
     ensures left { IfFiles S.Shelf shelf.old (λ files. IfInput I.Source (reads_input request.now) input.old (λ bytes.
         LeavesFiles request.now files bytes (S.seen shelf.new).files)) }
     ensures others { IfFiles S.Shelf shelf.old (λ files.
-        KeepsOthers (output_of request.now) files (S.seen shelf.new).files) }
+        KeepsFilesBut (outputs_of request.now) files (S.seen shelf.new).files) }
     ensures input { TakesInput I.Source (reads_input request.now) (status_of result) input.old input.new }
     ensures runs { MayReadInput S.Shelf I.Source O.Sink (CanRefuse request.now) shelf.old shelf.new input.old input.new
         out.old out.new result }
     ensures taken { OnOk result (is_ok request.now ≡ true) }
-    ensures shows { IfNone (output_of request.now) (S.seen shelf.new ≡ S.seen shelf.old) }
+    ensures shows { IfNoneMade (outputs_of request.now) (S.seen shelf.new ≡ S.seen shelf.old) }
 {
     match request {
         Err(fault) => Err(Status::from(*fault)),
@@ -129,6 +130,7 @@ fn answer<S: Shelf, I: Source, O: Sink>(
             };
             make_file(alloc, &request, shelf, out)
         }
+        Ok(Request::Trial { seed, name }) => try_volume(alloc, *seed, name.as_str(), shelf, out),
         Ok(_) => Err(Status::Usage {
             kind: UsageKind::Tool,
         }),

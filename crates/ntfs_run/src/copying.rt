@@ -6,7 +6,7 @@ ghost use Rattle.ntfs_volume.specs.Opened.{HasClusters};
 ghost use Rattle.ntfs_run.specs.Clone.{volume_in};
 ghost use Rattle.ntfs_run.specs.Filling.{Fills, IsCutOff, IsFilled};
 
-use crate::checked::Checked;
+use crate::checked::Accepted;
 use crate::status::Status;
 use ntfs_base::{HostFile, Image};
 use ntfs_clone::copy_clusters;
@@ -16,7 +16,7 @@ use std::alloc::Global;
 pub fn copy_to_file<G: Image, F: HostFile>(
     alloc: Global,
     image: &mut G,
-    checked: &Checked,
+    checked: &Accepted,
     file: &mut F,
 ) -> Result<(), Status>
     requires held { HasClusters (G.seen image.old).size checked.now.table }

@@ -19,6 +19,7 @@ mod restoring;
 mod saving;
 mod show;
 mod status;
+mod trial;
 
 pub use command::run;
 pub use message::put_message;

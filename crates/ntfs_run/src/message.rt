@@ -4,9 +4,9 @@ ghost use Rattle.hex.specs.Hex.{encode_lower};
 ghost use Rattle.std.specs.Int.{w16, w32, to_be_bytes};
 ghost use Rattle.ntfs_base.specs.Sink.{Put};
 ghost use Rattle.ntfs_base.specs.Causes.{SinkCause};
-ghost use Rattle.ntfs_run.specs.Message.{with_number, file_named, flags_text, lack_text, line_for, message_for};
+ghost use Rattle.ntfs_run.specs.Message.{with_number, end_in, end_named, flags_text, lack_text, line_for, message_for};
 ghost use Rattle.ntfs_run.specs.Message.{missing_text, name_in, rule_number, rule_text, status_text, tool_word};
-ghost use Rattle.ntfs_run.specs.Message.{type_text, usage_text, without_zeros};
+ghost use Rattle.ntfs_run.specs.Message.{type_text, usage_text, without_zeros, word_in, word_named};
 
 use crate::status::Status;
 use ntfs_base::{Lack, Line, Missing, Named, PutFault, Rule, Sink, UsageKind};
@@ -269,24 +269,44 @@ fn put_line<E: Sink>(
     front.push(tool_word(tool));
     front.push(b": ");
     push_status(&mut front, status);
-    put_three(err, front.as_bytes(), name_in(request, status), b"\n")
+    put_named(front.as_bytes(), request, status, err)
 }
 
-/// Puts three texts, one after the other.
-fn put_three<E: Sink>(err: &mut E, front: &[u8], name: &[u8], end: &[u8]) -> Result<(), PutFault>
-    ensures put { Put (front.now ++ (name.now ++ end.now)) (E.seen err.old) result (E.seen err.new) }
+/// Puts a text, the name of the host file that a status speaks of, and a line feed.
+fn put_named<E: Sink>(
+    front: &[u8],
+    request: &Result<Request, WordsFault>,
+    status: &Status,
+    err: &mut E,
+) -> Result<(), PutFault>
+    ensures put { Put (front.now ++ (name_in request.now status.now ++ (10 ∷ []))) (E.seen err.old) result
+        (E.seen err.new) }
     ensures cause { SinkCause (E.faults err.old) (E.faults err.new) result }
 {
     err.put(front)?;
-    put_two(err, name, end)
+    put_name(request, status, err)
 }
 
-fn put_two<E: Sink>(err: &mut E, name: &[u8], end: &[u8]) -> Result<(), PutFault>
-    ensures put { Put (name.now ++ end.now) (E.seen err.old) result (E.seen err.new) }
+/// Puts the name in its two pieces, and a line feed.
+fn put_name<E: Sink>(
+    request: &Result<Request, WordsFault>,
+    status: &Status,
+    err: &mut E,
+) -> Result<(), PutFault>
+    ensures put { Put (name_in request.now status.now ++ (10 ∷ [])) (E.seen err.old) result (E.seen err.new) }
     ensures cause { SinkCause (E.faults err.old) (E.faults err.new) result }
 {
-    err.put(name)?;
-    err.put(end)
+    put_two(err, word_in(request, status), end_in(request, status))?;
+    err.put(b"\n")
+}
+
+/// Puts two texts, one after the other.
+fn put_two<E: Sink>(err: &mut E, text: &[u8], more: &[u8]) -> Result<(), PutFault>
+    ensures put { Put (text.now ++ more.now) (E.seen err.old) result (E.seen err.new) }
+    ensures cause { SinkCause (E.faults err.old) (E.faults err.new) result }
+{
+    err.put(text)?;
+    err.put(more)
 }
 
 fn tool_word(tool: Option<Tool>) -> &'static [u8]
@@ -299,20 +319,31 @@ fn tool_word(tool: Option<Tool>) -> &'static [u8]
     }
 }
 
-/// The name of the host file that a status speaks of.
-fn name_in<'a>(request: &'a Result<Request, WordsFault>, status: &Status) -> &'a [u8]
-    ensures { result.now ≡ name_in request.entry.now status.now }
+/// What the name of the host file begins with that a status speaks of: a word of the request.
+fn word_in<'a>(request: &'a Result<Request, WordsFault>, status: &Status) -> &'a [u8]
+    ensures { result.now ≡ word_in request.entry.now status.now }
 {
     match (request, *status) {
-        (Ok(request), Status::Absent { file }) => file_named(request, file).as_bytes(),
-        (Ok(request), Status::Present { file }) => file_named(request, file).as_bytes(),
+        (Ok(request), Status::Absent { file }) => word_named(request, file).as_bytes(),
+        (Ok(request), Status::Present { file }) => word_named(request, file).as_bytes(),
         _ => b"",
     }
 }
 
-/// The name of a host file of a request.
-fn file_named<'a>(request: &'a Request, file: Named) -> &'a str
-    ensures { result.now ≡ file_named request.entry.now file }
+/// What stands behind that word in the name.
+fn end_in(request: &Result<Request, WordsFault>, status: &Status) -> &'static [u8]
+    ensures { result.now ≡ end_in request.now status.now }
+{
+    match (request, *status) {
+        (Ok(request), Status::Absent { file }) => end_named(request, file),
+        (Ok(request), Status::Present { file }) => end_named(request, file),
+        _ => b"",
+    }
+}
+
+/// The word of a request that the name of a host file begins with.
+fn word_named<'a>(request: &'a Request, file: Named) -> &'a str
+    ensures { result.now ≡ word_named request.entry.now file }
 {
     match (request, file) {
         (Request::Info { image, .. }, Named::Image) => image.as_str(),
@@ -322,7 +353,21 @@ fn file_named<'a>(request: &'a Request, file: Named) -> &'a str
         (Request::Clone { source, .. }, Named::Source) => text_or_none(source),
         (Request::Clone { output, .. }, Named::Output) => text_or_none(output),
         (Request::Make { file, .. }, Named::Output) => file.as_str(),
+        (Request::Trial { name, .. }, Named::Output) => name.as_str(),
+        (Request::Trial { name, .. }, Named::Clone) => name.as_str(),
+        (Request::Trial { name, .. }, Named::Back) => name.as_str(),
         _ => "",
+    }
+}
+
+/// What stands behind that word: ntfstrial's second and third file bear the name of the first one and an end.
+fn end_named(request: &Request, file: Named) -> &'static [u8]
+    ensures { result.now ≡ end_named request.now file }
+{
+    match (request, file) {
+        (Request::Trial { .. }, Named::Clone) => b".clone",
+        (Request::Trial { .. }, Named::Back) => b".back",
+        _ => b"",
     }
 }
 

@@ -3,7 +3,7 @@ ghost use Rattle.std.specs.Prelude.{◌≡◌, IfErr};
 ghost use Rattle.ntfs_base.specs.Frames.{Gives, IfTold, OnlyReads};
 ghost use Rattle.ntfs_volume.specs.Opened.{HasClusters};
 ghost use Rattle.ntfs_run.specs.Outcome.{status_origin};
-ghost use Rattle.ntfs_run.specs.Place.{IsUnmeant, number_at, number_meant};
+ghost use Rattle.ntfs_run.specs.Place.{IsUnmeant, path_number, number_meant};
 
 use crate::status::Status;
 use ntfs_base::Image;
@@ -13,8 +13,8 @@ use ntfs_words::Target;
 use std::alloc::Global;
 
 /// The number of the record that a path names in the volume of this table.
-#[tactic(auto, unfolding(crate::specs::Place::number_at))]
-pub fn number_at<G: Image>(
+#[tactic(auto, unfolding(crate::specs::Place::path_number))]
+pub fn path_number<G: Image>(
     alloc: Global,
     path: &str,
     image: &mut G,
@@ -22,7 +22,7 @@ pub fn number_at<G: Image>(
 ) -> Result<u64, Status>
     requires { HasClusters (G.seen image.old).size table.now }
     ensures gives { IfTold G.Image image.old (λ content.
-        Gives status_origin (λ number. number) (number_at path.now table.now content) result) }
+        Gives status_origin (λ number. number) (path_number path.now table.now content) result) }
     ensures refusal { IfErr result IsUnmeant }
     ensures reads { OnlyReads G.Image status_origin image.old image.new result }
 {
@@ -44,6 +44,6 @@ pub fn number_meant<G: Image>(
 {
     match target {
         Target::Number { number } => Ok(*number),
-        Target::Path { path } => number_at(alloc, path.as_str(), image, table),
+        Target::Path { path } => path_number(alloc, path.as_str(), image, table),
     }
 }

@@ -2,7 +2,7 @@
 ghost use Rattle.std.specs.Prelude.{◌≡◌, IfErr, IfOk, Some, map, string_bytes, true};
 ghost use Rattle.ntfs_words.specs.Answers.{CanFail, HasRanges, tool_for};
 ghost use Rattle.ntfs_words.specs.Line.{Reads};
-ghost use Rattle.ntfs_run.specs.Command.{AreApart, is_standing, request_in, tool_in};
+ghost use Rattle.ntfs_run.specs.Command.{HasApartNames, is_standing, request_in, tool_in};
 
 use ntfs_base::UsageKind;
 use ntfs_words::{Request, Tool, WordsFault, read_words, tool_of};
@@ -30,7 +30,7 @@ fn is_standing(tool: Tool) -> bool
         Tool::Resize => false,
         Tool::Fix => false,
         Tool::Make => true,
-        Tool::Trial => false,
+        Tool::Trial => true,
     }
 }
 
@@ -42,7 +42,7 @@ pub fn read_request(alloc: Global, words: &[String]) -> Result<Request, WordsFau
     ensures kinds { IfErr result (CanFail (tool_in (map string_bytes words.now))) }
     ensures tool { IfOk result (λ request. tool_in (map string_bytes words.now) ≡ Some (tool_for request)) }
     ensures stands { IfOk result (λ request. is_standing (tool_for request) ≡ true) }
-    ensures apart { IfOk result AreApart }
+    ensures apart { IfOk result HasApartNames }
 {
     if tool_in(words).is_none() {
         return Err(WordsFault::Usage {

@@ -5,7 +5,7 @@ ghost use Rattle.ntfs_base.specs.Source.{after_take};
 ghost use Rattle.ntfs_clone.specs.Commands.{clone_commands, emptied};
 ghost use Rattle.ntfs_clone.specs.Header.{IsHeader, clone_header};
 ghost use Rattle.ntfs_clone.specs.Taking.{HasGiven, to_come};
-ghost use Rattle.ntfs_run.specs.Filling.{CloneRefuses, HeaderRefuses, IsRestoredAs, ReadRefuses, Restores};
+ghost use Rattle.ntfs_run.specs.Filling.{CloneRefuses, HeaderRefuses, IsRestoredAs, ReadRefuses, RestoresFrom};
 ghost use Rattle.ntfs_run.specs.Outcome.{clone_status, status_origin};
 
 use crate::status::Status;
@@ -59,7 +59,7 @@ pub fn restore_to_file<I: Source, F: HostFile>(
     ensures restored { IsTrue (I.seen source.old).is_told → IsTrue (F.seen file.old).is_told
         → IsRestoredAs header.now (to_come (I.seen source.old)) result (F.seen file.new).content }
     ensures kept { HasGiven (I.seen source.old) (I.seen source.new) }
-    ensures restores { Restores I.Source F.Image source.old source.new file.old file.new result }
+    ensures restores { RestoresFrom I.Source F.Image source.old source.new file.old file.new result }
     ensures refusal { IfErr result CloneRefuses }
 {
     restore_to(alloc, header, source, file)?;

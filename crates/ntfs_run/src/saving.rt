@@ -9,7 +9,7 @@ ghost use Rattle.ntfs_run.specs.Clone.{VolumeRefuses, volume_in, volume_to_save}
 ghost use Rattle.ntfs_run.specs.Filling.{Fills, IsCutOff, IsFilled};
 ghost use Rattle.ntfs_run.specs.Outcome.{status_origin};
 
-use crate::checked::{Checked, check_volume};
+use crate::checked::{Accepted, check_volume};
 use crate::status::Status;
 use ntfs_base::{FileSink, HostFile, Image, Sink};
 use ntfs_clone::save_clusters;
@@ -21,7 +21,7 @@ pub fn check_for_save<G: Image>(
     alloc: Global,
     force: bool,
     image: &mut G,
-) -> Result<Checked, Status>
+) -> Result<Accepted, Status>
     ensures gives { IfTold G.Image image.old (λ content.
         Gives status_origin (λ checked. volume_in checked content) (volume_to_save force content) result) }
     ensures held { IfOk result (λ checked. HasClusters (G.seen image.old).size checked.table) }
@@ -40,7 +40,7 @@ pub fn check_for_save<G: Image>(
 pub fn save_to<G: Image, K: Sink>(
     alloc: Global,
     image: &mut G,
-    checked: &Checked,
+    checked: &Accepted,
     sink: &mut K,
 ) -> Result<(), Status>
     requires held { HasClusters (G.seen image.old).size checked.now.table }
@@ -60,7 +60,7 @@ pub fn save_to<G: Image, K: Sink>(
 pub fn save_to_file<G: Image, F: HostFile>(
     alloc: Global,
     image: &mut G,
-    checked: &Checked,
+    checked: &Accepted,
     file: F,
 ) -> (F, Result<(), Status>)
     requires held { HasClusters (G.seen image.old).size checked.now.table }

@@ -4,7 +4,7 @@ ghost use Rattle.ntfs_base.specs.Frames.{Copies, IfFiles, IfTold};
 ghost use Rattle.ntfs_print.specs.Printing.{Prints};
 ghost use Rattle.ntfs_volume.specs.Opened.{HasClusters};
 ghost use Rattle.ntfs_run.specs.Outcome.{OnlyShows, status_origin};
-ghost use Rattle.ntfs_run.specs.Show.{ShowRefuses, asks_geometry, is_shown, image_printing, volume_printing};
+ghost use Rattle.ntfs_run.specs.Show.{ShowRefuses, asks_geometry, only_shows, image_printing, volume_printing};
 ghost use Rattle.ntfs_run.specs.Shown.{of_file, of_volume};
 
 use crate::cat::{StreamRequest, put_stream};
@@ -28,7 +28,7 @@ pub fn show<S: Shelf, O: Sink>(
     out: &mut O,
 ) -> Result<(), Status>
     requires attached { (S.seen shelf.old).attached ≡ [] }
-    requires shown { is_shown request.now ≡ true }
+    requires shown { only_shows request.now ≡ true }
     ensures prints { IfFiles S.Shelf shelf.old (λ files. Prints status_origin
         (of_file name.now files (image_printing request.now)) (O.seen out.old) result (O.seen out.new)) }
     ensures shows { OnlyShows S.Shelf O.Sink (ShowRefuses request.now) shelf.old shelf.new out.old out.new result }
@@ -46,7 +46,7 @@ fn show_image<G: Image, O: Sink>(
     image: &mut G,
     out: &mut O,
 ) -> Result<(), Status>
-    requires shown { is_shown request.now ≡ true }
+    requires shown { only_shows request.now ≡ true }
     ensures prints { IfTold G.Image image.old (λ content.
         Prints status_origin (image_printing request.now content) (O.seen out.old) result (O.seen out.new)) }
     ensures copies { Copies G.Image O.Sink status_origin image.old image.new out.old out.new result }
@@ -77,7 +77,7 @@ fn show_volume<G: Image, O: Sink>(
     image: &mut G,
     out: &mut O,
 ) -> Result<(), Status>
-    requires shown { is_shown request.now ≡ true }
+    requires shown { only_shows request.now ≡ true }
     requires asked { asks_geometry request.now ≡ false }
     ensures prints { IfTold G.Image image.old (λ content. Prints status_origin
         (of_volume content (λ volume. volume_printing request.now volume content)) (O.seen out.old) result
@@ -99,7 +99,7 @@ fn show_opened<G: Image, O: Sink>(
     out: &mut O,
 ) -> Result<(), Status>
     requires held { HasClusters (G.seen image.old).size table.now }
-    requires shown { is_shown request.now ≡ true }
+    requires shown { only_shows request.now ≡ true }
     requires asked { asks_geometry request.now ≡ false }
     ensures prints { IfTold G.Image image.old (λ content. Prints status_origin
         (volume_printing request.now table.now content) (O.seen out.old) result (O.seen out.new)) }
@@ -121,7 +121,7 @@ fn print_asked<G: Image, O: Sink>(
     out: &mut O,
 ) -> Result<(), Status>
     requires held { HasClusters (G.seen image.old).size table.now }
-    requires shown { is_shown request.now ≡ true }
+    requires shown { only_shows request.now ≡ true }
     requires asked { asks_geometry request.now ≡ false }
     ensures prints { IfTold G.Image image.old (λ content. Prints status_origin
         (volume_printing request.now table.now content) (O.seen out.old) result (O.seen out.new)) }

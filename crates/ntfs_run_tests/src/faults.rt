@@ -273,7 +273,7 @@ fn a_fault_of_the_messages_changes_no_status(rt: HostRuntime) -> Result<(), Fail
         line: "ntfsinfo: no such file: w\n",
         ..READ_FAULT
     };
-    for (number, put) in [(1, 2), (2, 25), (3, 26)] {
+    for (number, put) in [(1, 2), (2, 25), (3, 25), (4, 26)] {
         let plan = err_call(number, Leaves::Front { bytes: 2 });
         let ran = is_cut(&rt, alloc, Some(&image), plan, &case)?;
         assert_eq!(rt; ran.err.faults.failures, 1);
@@ -296,7 +296,7 @@ fn a_fault_of_the_messages_of_ntfsmake_changes_no_status(rt: HostRuntime) -> Res
         line: "ntfsmake: file exists: v\n",
         ..READ_FAULT
     };
-    for number in [1, 2, 3] {
+    for number in [1, 2, 3, 4] {
         let plan = err_call(number, Leaves::Before);
         let ran = is_cut(&rt, alloc, Some(&file), plan, &case)?;
         assert_eq!(rt; ran.err.faults.failures, 1);

@@ -26,6 +26,8 @@ mod message;
 #[cfg(test)]
 mod statuses;
 #[cfg(test)]
+mod trial;
+#[cfg(test)]
 mod volume;
 #[cfg(test)]
 mod words;

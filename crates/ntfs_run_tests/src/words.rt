@@ -102,8 +102,8 @@ fn words_that_name_no_tool_are_refused(rt: HostRuntime) -> Result<(), Fail> {
         tool.with_words(&["ntfscp"]),
         tool.with_words(&["ntfsresize", "-i", "v"]),
         tool.with_words(&["ntfsfix", "v"]),
-        tool.with_words(&["ntfstrial", "0", "t"]),
-        tool.with_words(&["ntfstrial", "-x"]),
+        tool.with_words(&["ntfsresize", "-x"]),
+        tool.with_words(&["ntfsfix", "-d", "v"]),
     ];
     all_answer(&rt, rt.alloc(), b"", &cases)
 }

@@ -6,10 +6,10 @@ use Rattle.ntfs_directory.specs.Directory.{DirectoryWalk, begun_walk}
 use Rattle.ntfs_directory.specs.State.{left_of}
 use Rattle.ntfs_volume.specs.Opened.{Opened}
 use Rattle.ntfs_volume.specs.declared.fault.VolumeFault.{VolumeFault}
-use Rattle.ntfs_show.specs.Descent.{AreWalked, IsDescent, IsUp, MeetsOne, above_descent, after_present, around_present, below_descent, descent_most, front_of, left_above, left_in_level, left_of_descent, more_of_descent, unmet}
+use Rattle.ntfs_show.specs.Descent.{AreWalked, IsDescent, IsBack, MeetsOne, above_descent, after_present, around_present, below_descent, descent_most, levels_front, left_above, left_in_level, left_of_descent, more_of_descent, unmet}
 use Rattle.ntfs_print.specs.Fault.{gather_refusal}
 use Rattle.ntfs_show.specs.ListState.{IsWalked, left_to_list}
-use Rattle.ntfs_show.specs.Listing.{Enter, Next, also_met, front_below, is_met, list_directory, list_entries, list_of, list_walk, nothing_more, record_numbers}
+use Rattle.ntfs_show.specs.Listing.{Enter, Next, also_met, front_below, was_entered, list_directory, list_entries, list_of, list_walk, nothing_more, record_numbers}
 use Rattle.ntfs_print.specs.Printing.{Printing, prints, stops}
 use Rattle.ntfs_print.specs.declared.fault.ShowFault.{ShowFault}
 use Rattle.ntfs_show.specs.declared.list_options.ListOptions.{ListOptions}
@@ -18,13 +18,13 @@ use Rattle.ntfs_show.specs.declared.listing.Level.{Level}
 use Rattle.ntfs_show.proofs.UnmetLemmas.{unmet-less, unmet-most}
 
 pub front_of-append : (front : List ℕ) (xs : List Level) (level : Level)
-    → front_of front (xs ++ level ∷ []) ≡ front_of front xs ++ level.name.items
+    → levels_front front (xs ++ level ∷ []) ≡ levels_front front xs ++ level.name.items
 front_of-append front [] level = refl
 front_of-append front (x ∷ xs) level = front_of-append (front ++ x.name.items) xs level
 
 pub left_above-append : (o : ListOptions) (v : Opened) (image : List ℕ) (levels : ℕ) (front : List ℕ) (xs : List Level)
     (level : Level) (next : Next) → left_above o v image levels front (xs ++ level ∷ []) next
-    ≡ left_in_level o v image (levels - length xs) (front_of front xs ++ level.name.items) level
+    ≡ left_in_level o v image (levels - length xs) (levels_front front xs ++ level.name.items) level
     (left_above o v image levels front xs next)
 left_above-append o v image levels front [] level next =
     let all : levels ≡ levels - 0 = omega arith in
@@ -33,7 +33,7 @@ left_above-append o v image levels front (x ∷ xs) level next =
     let fewer : levels - 1 - length xs ≡ levels - suc (length xs) = omega arith in
     left_above-append o v image (levels - 1) (front ++ x.name.items) xs level
     (left_in_level o v image levels (front ++ x.name.items) x next)
-    ∙ ap (λ (n : ℕ). left_in_level o v image n (front_of (front ++ x.name.items) xs ++ level.name.items) level
+    ∙ ap (λ (n : ℕ). left_in_level o v image n (levels_front (front ++ x.name.items) xs ++ level.name.items) level
     (left_above o v image (levels - 1) (front ++ x.name.items) xs
     (left_in_level o v image levels (front ++ x.name.items) x next))) fewer
 
@@ -79,7 +79,7 @@ behind_below o v image levels d =
 -- a directory was entered
 pub descent-entered : (o : ListOptions) (v : Opened) (image : List ℕ) (levels number : ℕ) (old new : Descent)
     → length old.above.items < levels
-    → old.path.items ≡ front_of [] old.above.items ++ old.present.name.items
+    → old.path.items ≡ levels_front [] old.above.items ++ old.present.name.items
     → new.above.items ≡ old.above.items ++ old.present ∷ []
     → new.path.items ≡ front_below old.path.items old.present.directory.walk.key
     → new.met.keys ≡ also_met number old.met.keys → new.present.directory.number ≡ number
@@ -132,14 +132,14 @@ descent-refused o v image levels number old fault few refused =
 
 -- there is a level for a number that wasn't met
 pub descent-few : (v : Opened) (levels number : ℕ) (old : Descent) (met : List ℕ) → IsDescent v levels old
-    → number < levels → is_met number old.met.keys ≡ false → MeetsOne number old.met.keys met
+    → number < levels → was_entered number old.met.keys ≡ false → MeetsOne number old.met.keys met
     → (length old.above.items < levels) × (unmet levels met < unmet levels old.met.keys)
 descent-few v levels number old met is within apart one =
     let less = unmet-less levels number old.met.keys met one within apart in
     (omega (arith, less, is.levels_left), less)
 
 pub descent-kept : (v : Opened) (levels number : ℕ) (old new : Descent) → IsDescent v levels old → number < levels
-    → is_met number old.met.keys ≡ false → MeetsOne number old.met.keys new.met.keys
+    → was_entered number old.met.keys ≡ false → MeetsOne number old.met.keys new.met.keys
     → new.above.items ≡ old.above.items ++ old.present ∷ []
     → new.path.items ≡ old.path.items ++ new.present.name.items
     → IsWalked v new.present.number new.present.directory
@@ -151,12 +151,12 @@ descent-kept v levels number old new is within apart one above path walked =
       above = subst (AreWalked v) (sym above) (AreWalked-append v old.above.items old.present is.above is.present);
       path = path ∙ ap (λ (f : List ℕ). f ++ new.present.name.items) (is.path
           ∙ sym (front_of-append [] old.above.items old.present)
-          ∙ ap (front_of []) (sym above));
+          ∙ ap (levels_front []) (sym above));
       levels_left = omega (arith, less, is.levels_left, ap length above, length-append old.above.items (old.present ∷ []));
     }
 
 pub descent-fewer : (v : Opened) (levels number : ℕ) (old new : Descent) → IsDescent v levels old → number < levels
-    → is_met number old.met.keys ≡ false → MeetsOne number old.met.keys new.met.keys
+    → was_entered number old.met.keys ≡ false → MeetsOne number old.met.keys new.met.keys
     → new.above.items ≡ old.above.items ++ old.present ∷ []
     → descent_most levels new < descent_most levels old
 descent-fewer v levels number old new is within apart one above =
@@ -165,17 +165,17 @@ descent-fewer v levels number old new is within apart one above =
 
 -- ---- one less
 
-front-behind : (old new : Descent) → old.path.items ≡ front_of [] old.above.items ++ old.present.name.items
-    → IsUp old new → new.path.items ≡ front_of [] new.above.items ++ new.present.name.items
+front-behind : (old new : Descent) → old.path.items ≡ levels_front [] old.above.items ++ old.present.name.items
+    → IsBack old new → new.path.items ≡ levels_front [] new.above.items ++ new.present.name.items
 front-behind old new front up =
-    let all = front_of [] old.above.items in
+    let all = levels_front [] old.above.items in
     let long : length old.path.items - length old.present.name.items ≡ length all =
     omega (arith, ap length front, length-append all old.present.name.items) in
     up.path ∙ ap (λ (n : ℕ). take n old.path.items) long ∙ ap (take (length all)) front
     ∙ take-append_seam all old.present.name.items
-    ∙ ap (front_of []) up.above ∙ front_of-append [] new.above.items new.present
+    ∙ ap (levels_front []) up.above ∙ front_of-append [] new.above.items new.present
 
-pub descent-up : (v : Opened) (levels : ℕ) (old new : Descent) → IsDescent v levels old → IsUp old new
+pub descent-up : (v : Opened) (levels : ℕ) (old new : Descent) → IsDescent v levels old → IsBack old new
     → IsDescent v levels new
 descent-up v levels old new is up =
     let parts = AreWalked-parts v new.above.items new.present (subst (AreWalked v) up.above is.above) in
@@ -192,7 +192,7 @@ descent-up v levels old new is up =
       );
     }
 
-pub descent-up-fewer : (levels : ℕ) (old new : Descent) → IsUp old new → descent_most levels new < descent_most levels old
+pub descent-up-fewer : (levels : ℕ) (old new : Descent) → IsBack old new → descent_most levels new < descent_most levels old
 descent-up-fewer levels old new up =
     omega (
       arith,
@@ -202,7 +202,7 @@ descent-up-fewer levels old new up =
     )
 
 pub descent-left : (o : ListOptions) (v : Opened) (image : List ℕ) (levels : ℕ) (old new : Descent)
-    → old.path.items ≡ front_of [] old.above.items ++ old.present.name.items → IsUp old new
+    → old.path.items ≡ levels_front [] old.above.items ++ old.present.name.items → IsBack old new
     → above_descent o v image levels old ≡ left_of_descent o v image levels new
 descent-left o v image levels old new front up =
     let next : after_present o v image levels old
@@ -223,7 +223,7 @@ descent-over o v image levels old none =
 
 -- the present one was left, or it was the start
 pub descent-turned : (o : ListOptions) (v : Opened) (image : List ℕ) (levels : ℕ) (old new : Descent) (more : Bool)
-    → old.path.items ≡ front_of [] old.above.items ++ old.present.name.items → (more ≡ true → IsUp old new)
+    → old.path.items ≡ levels_front [] old.above.items ++ old.present.name.items → (more ≡ true → IsBack old new)
     → (more ≡ false → old.above.items ≡ [])
     → above_descent o v image levels old ≡ more_of_descent o v image levels new more
 descent-turned o v image levels old new true front up start = descent-left o v image levels old new front (up refl)

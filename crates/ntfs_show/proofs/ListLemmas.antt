@@ -7,7 +7,7 @@ use Rattle.ntfs_base.specs.declared.fault.PutFault.{PutFault}
 use Rattle.ntfs_base.specs.declared.fault.PutFault.TheVariants as put
 use Rattle.ntfs_base.proofs.SinkLemmas.{after_put-append, after_put-nil}
 use Rattle.ntfs_print.specs.Fault.{show_fault, show_origin}
-use Rattle.ntfs_show.specs.Progress.{Goes, Lists, Stops}
+use Rattle.ntfs_show.specs.Progress.{Goes, ListsOrStops, Stops}
 use Rattle.ntfs_print.specs.Pending.{IsPrinted}
 use Rattle.ntfs_print.specs.Printing.{Printing, before, stops}
 use Rattle.ntfs_print.specs.declared.fault.ShowFault.{ShowFault}
@@ -131,8 +131,8 @@ put-never put.NoMemory settled = settled
 -- what is printed may be said in other words
 pub lists-as : {T I : Type 0} (told : Type 0) (first old : I → Printing ShowFault) (was : SinkState)
     (result : Result T ShowFault) (new : T → I → Printing ShowFault) (waiting : List ℕ) (now : SinkState)
-    → (told → (i : I) → first i ≡ old i) → Lists told old was result new waiting now
-    → Lists told first was result new waiting now
+    → (told → (i : I) → first i ≡ old i) → ListsOrStops told old was result new waiting now
+    → ListsOrStops told first was result new waiting now
 lists-as told first old was (Ok x) new waiting now same goes =
     goes-at told (λ i. i) old (new x) first (new x) was now goes same (λ is i. refl)
 lists-as told first old was (Err fault) new waiting now same stops =

@@ -13,7 +13,7 @@ use Rattle.ntfs_show.specs.ListPath.{list_found, list_outcome}
 use Rattle.ntfs_print.specs.Fault.{path_refusal}
 use Rattle.ntfs_show.specs.Listing.{list_of}
 use Rattle.ntfs_print.specs.Printing.{Printing, Prints, before, end_of, prints, stops}
-use Rattle.ntfs_show.specs.Progress.{Goes, Lists, Stops}
+use Rattle.ntfs_show.specs.Progress.{Goes, ListsOrStops, Stops}
 use Rattle.ntfs_print.specs.declared.fault.ShowFault.{ShowFault}
 use Rattle.ntfs_show.specs.declared.list_options.ListOptions.{ListOptions}
 use Rattle.ntfs_print.proofs.PendingLemmas.{prefix-behind, prefix-more, prefix-whole}
@@ -85,7 +85,7 @@ module _ (expected : Printing ShowFault) (front waiting : List ℕ) (was now aft
 -- by how the listing went, where nothing waited before
 pub list-put : (told : Type 0) (expected : Printing ShowFault) (result : Result (Unit {0}) ShowFault)
     (waiting : List ℕ) (was now after : SinkState) → told
-    → Lists {I = Unit {0}} told (λ all. before [] expected) was result (λ done all. before waiting (prints [])) waiting now
+    → ListsOrStops {I = Unit {0}} told (λ all. before [] expected) was result (λ done all. before waiting (prints [])) waiting now
     → after ≡ after_put waiting now → Prints show_origin expected was result after
 list-put told expected (Ok done) waiting was now after is goes rest =
     list-ended expected goes.front waiting was now after goes.put (goes.rest is tt) rest
@@ -95,7 +95,7 @@ list-put told expected (Err fault) waiting was now after is stops rest =
 
 pub list-unput : (told : Type 0) (expected : Printing ShowFault) (result : Result (Unit {0}) ShowFault)
     (waiting : List ℕ) (was now after : SinkState) (fault : ShowFault) → told
-    → Lists {I = Unit {0}} told (λ all. before [] expected) was result (λ done all. before waiting (prints [])) waiting now
+    → ListsOrStops {I = Unit {0}} told (λ all. before [] expected) was result (λ done all. before waiting (prints [])) waiting now
     → (IsSettled (show_origin fault) → ⊥) → PutsPrefix waiting now after
     → Prints show_origin expected was (Err fault) after
 list-unput told expected (Ok done) waiting was now after fault is goes never part =

@@ -13,7 +13,7 @@ use Rattle.ntfs_volume.specs.declared.fault.VolumeFault.{VolumeFault}
 use Rattle.ntfs_volume.specs.declared.fault.VolumeFault.TheVariants as volume
 use Rattle.ntfs_print.specs.Fault.{gather_refusal, show_origin}
 use Rattle.ntfs_show.specs.ListState.{Around, after_turn, below_to_list, left_to_list}
-use Rattle.ntfs_show.specs.Listing.{Next, entry_kind, entry_line, entry_path, front_below, is_entered, is_met, is_shown, list_below, list_end, list_entries, list_entry, list_given}
+use Rattle.ntfs_show.specs.Listing.{Next, entry_kind, entry_line, entry_path, front_below, is_entered, was_entered, is_shown, list_below, list_end, list_entries, entry_printing, list_given}
 use Rattle.ntfs_print.specs.Pending.{IsPrinted}
 use Rattle.ntfs_print.specs.Printing.{Printing, before, stops}
 use Rattle.ntfs_show.specs.Progress.{Goes, Stops}
@@ -27,7 +27,7 @@ use Rattle.ntfs_show.proofs.ListLemmas.{goes-at, goes-none, goes-pushed, stops-a
 module _ (told : Type 0) (o : ListOptions) (front : List ℕ) (entry : IndexEntry) (kind : Result Bool ShowFault) where
   -- what is printed of the entry
   abbrev pub of_entry : (Bool → Printing ShowFault) → Printing ShowFault
-  of_entry behind = list_entry o front entry kind behind
+  of_entry behind = entry_printing o front entry kind behind
 
   -- its record is refused, or memory is wanting
   pub entry-refused : (fault : ShowFault) (waiting : List ℕ) (was : SinkState)
@@ -35,7 +35,7 @@ module _ (told : Type 0) (o : ListOptions) (front : List ℕ) (entry : IndexEntr
       → Stops told (λ behind. before waiting (of_entry behind)) fault was waiting was
   entry-refused fault waiting was refused =
       stops-here told of_entry fault waiting was
-      (λ is settled behind. ap (λ k. list_entry o front entry k behind) (refused is settled))
+      (λ is settled behind. ap (λ k. entry_printing o front entry k behind) (refused is settled))
 
   -- its line was printed
   pub entry-printed : (is_directory : Bool) (text waiting : List ℕ) (was : SinkState) (held : List ℕ) (now : SinkState)
@@ -44,7 +44,7 @@ module _ (told : Type 0) (o : ListOptions) (front : List ℕ) (entry : IndexEntr
       → Goes told (λ behind. before waiting (of_entry behind)) (λ behind. before held (behind is_directory)) was now
   entry-printed is_directory text waiting was held now known spelled printed =
       goes-pushed told of_entry (λ behind. behind is_directory) text waiting was held now
-      (λ is behind. ap (λ k. list_entry o front entry k behind) (known is)
+      (λ is behind. ap (λ k. entry_printing o front entry k behind) (known is)
       ∙ ap (λ bytes. before bytes (behind is_directory)) (sym spelled)) printed
 
   -- its line was cut off
@@ -55,7 +55,7 @@ module _ (told : Type 0) (o : ListOptions) (front : List ℕ) (entry : IndexEntr
       → Stops told (λ behind. before waiting (of_entry behind)) fault was held now
   entry-cut is_directory fault text waiting was held now never known spelled none cut =
       stops-cut told of_entry (λ behind. behind is_directory) fault text waiting was held now never none
-      (λ is behind. ap (λ k. list_entry o front entry k behind) (known is)
+      (λ is behind. ap (λ k. entry_printing o front entry k behind) (known is)
       ∙ ap (λ bytes. before bytes (behind is_directory)) (sym spelled)) cut
 
 -- ---- an entry, and the others
@@ -74,7 +74,7 @@ module _ (told : Type 0) (o : ListOptions) (v : Opened) (image front : List ℕ)
   after_given below around = below_to_list around.enter (front_below front entry.key) around.next met below
 
   abbrev pub old_entry : (Bool → Printing ShowFault) → Printing ShowFault
-  old_entry behind = list_entry o front entry (entry_kind o v image d entry.reference) behind
+  old_entry behind = entry_printing o front entry (entry_kind o v image d entry.reference) behind
 
   given-shown : is_shown o entry.key ≡ true → (around : Around) → of_given around ≡ old_entry (behind_given around)
   given-shown is around = rw is refl
@@ -186,10 +186,10 @@ both-second false y both = absurd cc
 
 -- a directory that is entered wasn't met
 pub entered-new : (o : ListOptions) (is_directory : Bool) (number : ℕ) (met : List ℕ)
-    → is_entered o is_directory number met ≡ true → is_met number met ≡ false
+    → is_entered o is_directory number met ≡ true → was_entered number met ≡ false
 unfolding is_entered
 entered-new o is_directory number met entered =
-    not-true (is_met number met) (both-second (o.recursive && is_directory) (not (is_met number met)) entered)
+    not-true (was_entered number met) (both-second (o.recursive && is_directory) (not (was_entered number met)) entered)
 
 -- a refusal of a directory that didn't cut the work off didn't as one of the volume
 pub gather-settled : (number : ℕ) (fault : VolumeFault) → IsSettled (show_origin (gather_refusal number fault))

@@ -25,7 +25,7 @@ use Rattle.ntfs_print.specs.Fault.{show_fault}
 use Rattle.ntfs_print.specs.Label.{kind_and_name}
 use Rattle.ntfs_print.specs.Pending.{IsPrinted, Pushes}
 use Rattle.ntfs_print.specs.Printing.{Printing, Prints, stops}
-use Rattle.ntfs_show.specs.RecordInfo.{IsCutOff, IsRecordRefusal, all_keep_cells, attribute_line, attribute_lines, block_printing, body_text, file_printing, has_right_cells, head_lines, line_if_right, record_printing, record_refusal, shown_attributes}
+use Rattle.ntfs_show.specs.RecordInfo.{IsInterrupted, IsRecordRefusal, all_keep_cells, attribute_line, attribute_lines, block_printing, body_text, file_printing, has_right_cells, head_lines, line_if_right, record_printing, record_refusal, shown_attributes}
 use Rattle.ntfs_print.specs.declared.fault.ShowFault.{ShowFault}
 use Rattle.ntfs_print.specs.declared.fault.ShowFault.TheVariants as show
 use Rattle.ntfs_print.proofs.PendingLemmas.{pushes-none}
@@ -148,12 +148,12 @@ printed-first waiting text head held old new none is = subst (λ xs. IsPrinted x
 -- ---- refusals
 
 -- one of the sink, in the words of a printing call
-pub put-cut : (fault : PutFault) → IsCutOff (show_fault fault)
+pub put-cut : (fault : PutFault) → IsInterrupted (show_fault fault)
 put-cut put.Failed = λ settled. absurd settled
 put-cut put.NoMemory = λ settled. absurd settled
 
 -- what cuts a printing off is listed
-pub cut-listed : (r : ℕ) (fault : ShowFault) → IsCutOff fault → IsRecordRefusal r fault
+pub cut-listed : (r : ℕ) (fault : ShowFault) → IsInterrupted fault → IsRecordRefusal r fault
 cut-listed r (show.NotFound what) cut = absurd (cut tt)
 cut-listed r (show.NotPlain flags) cut = absurd (cut tt)
 cut-listed r (show.Damaged broken number) cut = absurd (cut tt)

@@ -16,11 +16,11 @@ gathered_stream v image r kind name =
     refused_as (gather_refusal r) (gather_of v.geometry v.map (cluster_at image v.geometry.cluster) r kind name)
 
 -- the bytes of a stream
-abbrev pub shown_bytes : Geometry → List ℕ → Stream ℕ → Result (List ℕ) ShowFault
-shown_bytes g image s = refused_as stream_refusal (stream_outcome g image s)
+abbrev pub printed_bytes : Geometry → List ℕ → Stream ℕ → Result (List ℕ) ShowFault
+printed_bytes g image s = refused_as stream_refusal (stream_outcome g image s)
 
 -- the bytes of the stream of this type and name of record r of an opened volume
 unfoldable pub cat_outcome : Opened → List ℕ → ℕ → ℕ → List ℕ → Result (List ℕ) ShowFault
 cat_outcome v image r kind name = do
   found ← gathered_stream v image r kind name
-  shown_bytes v.geometry image found.stream
+  printed_bytes v.geometry image found.stream

@@ -7,7 +7,7 @@ use Rattle.ntfs_base.specs.Frames.{IsSettled}
 use Rattle.ntfs_volume.specs.Opened.{Opened}
 use Rattle.ntfs_print.specs.Fault.{show_origin}
 use Rattle.ntfs_show.specs.ListState.{Around, IsWalked, left_to_list}
-use Rattle.ntfs_show.specs.Listing.{Next, also_met, front_below, is_met, list_directory, nothing_more}
+use Rattle.ntfs_show.specs.Listing.{Next, also_met, front_below, was_entered, list_directory, nothing_more}
 use Rattle.ntfs_print.specs.Printing.{Printing, prints, stops}
 use Rattle.ntfs_print.specs.declared.fault.ShowFault.{ShowFault}
 use Rattle.ntfs_show.specs.declared.list_options.ListOptions.{ListOptions}
@@ -15,9 +15,9 @@ use Rattle.ntfs_show.specs.declared.listing.Descent.{Descent}
 use Rattle.ntfs_show.specs.declared.listing.Level.{Level}
 
 -- what stands before the names of the entries of the last of these directories, where this stands before the first's
-abbrev pub front_of : List ℕ → List Level → List ℕ
-front_of front [] = front
-front_of front (level ∷ levels) = front_of (front ++ level.name.items) levels
+abbrev pub levels_front : List ℕ → List Level → List ℕ
+levels_front front [] = front
+levels_front front (level ∷ levels) = levels_front (front ++ level.name.items) levels
 
 -- ---- what is left to be printed
 
@@ -75,17 +75,17 @@ AreWalked v (level ∷ levels) = IsWalked v level.number level.directory × AreW
 -- how many of so many numbers weren't met
 unfoldable pub unmet : ℕ → List ℕ → ℕ
 unmet zero met = 0
-unmet (suc n) met = unmet n met + (if is_met n met then 0 else 1)
+unmet (suc n) met = unmet n met + (if was_entered n met then 0 else 1)
 
 -- what was met after one more is
 pub record MeetsOne (number : ℕ) (old new : List ℕ) : Type 0 where
-  pub updates : (q : ℕ) → is_met q new ≡ cond (is_at (nat_cmp number) q) true (is_met q old)
+  pub updates : (q : ℕ) → was_entered q new ≡ cond (is_at (nat_cmp number) q) true (was_entered q old)
 
 -- all are walked, the path is that of their names, and there is a level for each number that wasn't met
 pub record IsDescent (v : Opened) (levels : ℕ) (d : Descent) : Type 0 where
   pub present : IsWalked v d.present.number d.present.directory
   pub above : AreWalked v d.above.items
-  pub path : d.path.items ≡ front_of [] d.above.items ++ d.present.name.items
+  pub path : d.path.items ≡ levels_front [] d.above.items ++ d.present.name.items
   pub levels_left : unmet levels d.met.keys + length d.above.items ≤ levels
 
 -- how much is left at most: directories that can be entered, each of which is left then, and those that are to be left
@@ -93,14 +93,14 @@ abbrev pub descent_most : ℕ → Descent → ℕ
 descent_most levels d = unmet levels d.met.keys + unmet levels d.met.keys + length d.above.items
 
 -- the directory of a number was entered, or it is nothing but a refusal
-abbrev pub IsIn : ListOptions → Opened → List ℕ → ℕ → ℕ → Descent → Result (Unit {0}) ShowFault → Descent → Type 0
-IsIn o v image levels number old (Ok done) new =
+abbrev pub HasEntered : ListOptions → Opened → List ℕ → ℕ → ℕ → Descent → Result (Unit {0}) ShowFault → Descent → Type 0
+HasEntered o v image levels number old (Ok done) new =
     below_descent o v image levels old number ≡ left_of_descent o v image levels new
-IsIn o v image levels number old (Err fault) new =
+HasEntered o v image levels number old (Err fault) new =
     IsSettled (show_origin fault) → below_descent o v image levels old number ≡ stops fault
 
 -- the present one has become the one above it
-pub record IsUp (old new : Descent) : Type 0 where
+pub record IsBack (old new : Descent) : Type 0 where
   pub above : old.above.items ≡ new.above.items ++ new.present ∷ []
   pub path : new.path.items ≡ take (length old.path.items - length old.present.name.items) old.path.items
   pub met : new.met ≡ old.met

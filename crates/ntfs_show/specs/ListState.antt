@@ -5,7 +5,7 @@ use Rattle.ntfs_base.specs.Sink.{SinkState, after_put}
 use Rattle.ntfs_directory.specs.State.{DirectoryState, IsOn, answered, left_of}
 use Rattle.ntfs_volume.specs.Opened.{Opened}
 use Rattle.ntfs_print.specs.Fault.{show_origin}
-use Rattle.ntfs_show.specs.Listing.{Enter, Next, also_met, front_below, is_met, list_entries, record_numbers}
+use Rattle.ntfs_show.specs.Listing.{Enter, Next, also_met, front_below, was_entered, list_entries, record_numbers}
 use Rattle.ntfs_print.specs.Printing.{Printing, before, stops}
 use Rattle.ntfs_print.specs.declared.fault.ShowFault.{ShowFault}
 use Rattle.ntfs_show.specs.declared.list_walk.Desk.{Desk}
@@ -54,7 +54,7 @@ pub record IsWalked (v : Opened) (number : ℕ) (d : DirectoryState) : Type 0 wh
 -- a directory that is to be entered has a number that a reference can have, and wasn't met
 abbrev pub IsNew : List ℕ → Option ℕ → Type 0
 IsNew met None = Unit {0}
-IsNew met (Some number) = (number < record_numbers) × (is_met number met ≡ false)
+IsNew met (Some number) = (number < record_numbers) × (was_entered number met ≡ false)
 
 -- that of a turn
 abbrev pub IsNewTurn : List ℕ → Turn → Type 0
@@ -62,9 +62,9 @@ IsNewTurn met (turn.Given below) = IsNew met below
 IsNewTurn met turn.Ended = Unit {0}
 
 -- where a turn gave an entry
-abbrev pub IfGiven : Turn → Type 0 → Type 0
-IfGiven (turn.Given below) is = is
-IfGiven turn.Ended is = Unit {0}
+abbrev pub IfTurnGiven : Turn → Type 0 → Type 0
+IfTurnGiven (turn.Given below) is = is
+IfTurnGiven turn.Ended is = Unit {0}
 
 -- what a listing works with stays: its options, and the room for a record
 pub record IsSameDesk (old new : Desk) : Type 0 where

@@ -58,22 +58,22 @@ entry_line o number path is_directory = number_text o number ++ (path ++ (kind_t
 
 -- ---- the directories that were met, by their numbers, ascending
 
-abbrev pub is_met : ℕ → List ℕ → Bool
-is_met number met = list_any (is_at (nat_cmp number)) met
+abbrev pub was_entered : ℕ → List ℕ → Bool
+was_entered number met = list_any (is_at (nat_cmp number)) met
 
 abbrev pub also_met : ℕ → List ℕ → List ℕ
 also_met number met = insert_key nat_cmp met number
 
 -- with the recursion a directory is entered the first time that it is met
 unfoldable pub is_entered : ListOptions → Bool → ℕ → List ℕ → Bool
-is_entered o is_directory number met = o.recursive && is_directory && not (is_met number met)
+is_entered o is_directory number met = o.recursive && is_directory && not (was_entered number met)
 
 -- ---- what is printed
 
 -- the record of an entry of directory d with this reference has the directory flag
-abbrev pub kind_of : ℕ → Result EntryRecord VolumeFault → Result Bool ShowFault
-kind_of d (Ok found) = Ok found.is_directory
-kind_of d (Err fault) = Err (gather_refusal d fault)
+abbrev pub directory_flag : ℕ → Result EntryRecord VolumeFault → Result Bool ShowFault
+directory_flag d (Ok found) = Ok found.is_directory
+directory_flag d (Err fault) = Err (gather_refusal d fault)
 
 -- what is printed from some point on, by the directories that were met before
 abbrev pub Next : Type 0
@@ -93,11 +93,11 @@ list_end d None next met = next met
 list_end d (Some fault) next met = stops (gather_refusal d fault)
 
 -- an entry by its record: its line, and what is behind that, which depends on its being a directory
-abbrev pub list_entry : ListOptions → List ℕ → IndexEntry → Result Bool ShowFault → (Bool → Printing ShowFault)
+abbrev pub entry_printing : ListOptions → List ℕ → IndexEntry → Result Bool ShowFault → (Bool → Printing ShowFault)
     → Printing ShowFault
-list_entry o front entry (Ok is_directory) behind =
+entry_printing o front entry (Ok is_directory) behind =
     before (entry_line o (target entry.reference) (entry_path front entry.key) is_directory) (behind is_directory)
-list_entry o front entry (Err fault) behind = stops fault
+entry_printing o front entry (Err fault) behind = stops fault
 
 -- a directory that is entered, and the other entries; `enter` prints a directory
 abbrev pub list_below : Enter → Bool → List ℕ → ℕ → Next → Next
@@ -107,14 +107,14 @@ module _ (o : ListOptions) (v : Opened) (image : List ℕ) where
   -- an entry of directory d with this reference is a directory, by its record, which is read where the options need it
   unfoldable pub entry_kind : ℕ → ℕ → Result Bool ShowFault
   entry_kind d reference =
-      if o.classify || o.recursive then kind_of d (entry_record v.geometry v.map image d reference)
+      if o.classify || o.recursive then directory_flag d (entry_record v.geometry v.map image d reference)
       else Ok false
 
   -- an entry of directory d, before whose name this front stands: nothing where it isn't shown; and then the others
   abbrev pub list_given : Enter → List ℕ → ℕ → IndexEntry → Next → Next
   list_given enter front d entry others met =
       if is_shown o entry.key
-      then list_entry o front entry (entry_kind d entry.reference)
+      then entry_printing o front entry (entry_kind d entry.reference)
       (λ is_directory. list_below enter (is_entered o is_directory (target entry.reference) met)
       (front_below front entry.key) (target entry.reference) others met)
       else others met

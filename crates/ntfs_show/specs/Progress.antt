@@ -21,7 +21,7 @@ pub record Stops {I : Type 0} (told : Type 0) (old : I → Printing ShowFault) (
   pub end : told → IsSettled (show_origin fault) → (i : I) → old i ≡ before (front ++ waiting) (stops fault)
 
 -- one of both, by the answer
-abbrev pub Lists : {T I : Type 0} → Type 0 → (I → Printing ShowFault) → SinkState → Result T ShowFault
+abbrev pub ListsOrStops : {T I : Type 0} → Type 0 → (I → Printing ShowFault) → SinkState → Result T ShowFault
     → (T → I → Printing ShowFault) → List ℕ → SinkState → Type 0
-Lists told old was (Ok x) new waiting now = Goes told old (new x) was now
-Lists told old was (Err fault) new waiting now = Stops told old fault was waiting now
+ListsOrStops told old was (Ok x) new waiting now = Goes told old (new x) was now
+ListsOrStops told old was (Err fault) new waiting now = Stops told old fault was waiting now

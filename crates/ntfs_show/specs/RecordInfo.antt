@@ -164,11 +164,11 @@ IsRecordRefusal r other = ⊥
 -- ---- the sink
 
 -- a refusal of the sink, or of memory
-abbrev pub IsCutOff : ShowFault → Type 0
-IsCutOff fault = IsSettled (show_origin fault) → ⊥
+abbrev pub IsInterrupted : ShowFault → Type 0
+IsInterrupted fault = IsSettled (show_origin fault) → ⊥
 
 -- a call over a sink, which takes memory of its own too, and over nothing else outside
-pub record OnlyPrints {K T E : Type 0} (k : sink.Ghosts K) (origin : E → Origin) (old new : K)
+pub record PrintsAlone {K T E : Type 0} (k : sink.Ghosts K) (origin : E → Origin) (old new : K)
     (result : Result T E) : Type 0 where
   pub puts : SinkHasNotFallen (k.faults old) (k.faults new)
   pub cause : IfErr result (λ fault. Because (origin fault) ⊥ (Rose (k.faults old).failures (k.faults new).failures)

@@ -5,7 +5,7 @@ ghost use Rattle.ntfs_base.specs.Frames.{Copies, IfTold};
 ghost use Rattle.ntfs_print.specs.Fault.{show_origin};
 ghost use Rattle.ntfs_show.specs.ListPath.{list_outcome};
 ghost use Rattle.ntfs_print.specs.Printing.{Prints, before, prints};
-ghost use Rattle.ntfs_show.specs.Progress.{Lists};
+ghost use Rattle.ntfs_show.specs.Progress.{ListsOrStops};
 ghost use Rattle.ntfs_volume.specs.Opened.{HasClusters};
 
 use crate::list_options::ListOptions;
@@ -28,7 +28,7 @@ fn list_path<G: Image, K: Sink>(
 ) -> Result<(), ShowFault>
     requires held { HasClusters (G.seen image.old).size table.now }
     requires block { vec_len desk.old.block ≡ table.now.geometry.record_size }
-    ensures lists { Lists (IsTrue (G.seen image.old).is_told)
+    ensures lists { ListsOrStops (IsTrue (G.seen image.old).is_told)
         (λ (all : Unit {0}). before desk.old.pending (list_outcome desk.old.options table.now
         (G.seen image.old).content path.now))
         (K.seen out.old) result (λ done all. before desk.new.pending (prints [])) desk.new.pending

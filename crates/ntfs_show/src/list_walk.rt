@@ -5,11 +5,11 @@ ghost use Rattle.ntfs_base.specs.Frames.{Copies, Gives, IfTold, OnlyPuts, OnlyRe
 ghost use Rattle.ntfs_base.specs.Sink.{Put};
 ghost use Rattle.ntfs_index.specs.State.{entries_most};
 ghost use Rattle.ntfs_print.specs.Fault.{show_origin};
-ghost use Rattle.ntfs_show.specs.ListState.{Around, IfGiven, IsNew, IsNewTurn, IsSameDesk, IsWalked, after_entries, after_turn, below_to_list, left_to_list};
-ghost use Rattle.ntfs_show.specs.Listing.{entry_kind, front_below, list_entry, list_given, record_numbers};
+ghost use Rattle.ntfs_show.specs.ListState.{Around, IfTurnGiven, IsNew, IsNewTurn, IsSameDesk, IsWalked, after_entries, after_turn, below_to_list, left_to_list};
+ghost use Rattle.ntfs_show.specs.Listing.{entry_kind, front_below, entry_printing, list_given, record_numbers};
 ghost use Rattle.ntfs_print.specs.Pending.{put_origin};
 ghost use Rattle.ntfs_print.specs.Printing.{Printing, before};
-ghost use Rattle.ntfs_show.specs.Progress.{Lists};
+ghost use Rattle.ntfs_show.specs.Progress.{ListsOrStops};
 ghost use Rattle.ntfs_print.specs.declared.fault.ShowFault.{ShowFault as Fault};
 ghost use Rattle.ntfs_volume.specs.Opened.{HasClusters};
 ghost use Rattle.ntfs_volume.specs.References.{target};
@@ -120,8 +120,8 @@ fn show_entry<G: Image, K: Sink>(
 ) -> Result<bool, ShowFault>
     requires held { HasClusters (G.seen image.old).size table.now }
     requires block { vec_len desk.old.block ≡ table.now.geometry.record_size }
-    ensures lists { Lists (IsTrue (G.seen image.old).is_told)
-        (λ (behind : Bool → Printing Fault). before desk.old.pending (list_entry desk.old.options front.now
+    ensures lists { ListsOrStops (IsTrue (G.seen image.old).is_told)
+        (λ (behind : Bool → Printing Fault). before desk.old.pending (entry_printing desk.old.options front.now
         (record { reference = reference; key = key.now })
         (entry_kind desk.old.options table.now (G.seen image.old).content number reference) behind))
         (K.seen out.old) result (λ is_directory behind. before desk.new.pending (behind is_directory))
@@ -165,7 +165,7 @@ fn show_given<G: Image, K: Sink>(
 ) -> Result<Option<u64>, ShowFault>
     requires held { HasClusters (G.seen image.old).size table.now }
     requires block { vec_len desk.old.block ≡ table.now.geometry.record_size }
-    ensures lists { Lists (IsTrue (G.seen image.old).is_told)
+    ensures lists { ListsOrStops (IsTrue (G.seen image.old).is_told)
         (λ (around : Around). before desk.old.pending (list_given desk.old.options table.now (G.seen image.old).content
         around.enter front.now number (record { reference = reference; key = key.now }) around.next met.now.keys))
         (K.seen out.old) result
@@ -202,7 +202,7 @@ fn show_next<G: Image, K: Sink>(
     requires held { HasClusters (G.seen image.old).size table.now }
     requires block { vec_len desk.old.block ≡ table.now.geometry.record_size }
     requires walked { IsWalked table.now number directory.old }
-    ensures lists { Lists (IsTrue (G.seen image.old).is_told)
+    ensures lists { ListsOrStops (IsTrue (G.seen image.old).is_told)
         (λ (around : Around). before desk.old.pending (left_to_list desk.old.options table.now
         (G.seen image.old).content around front.now directory.old met.now.keys))
         (K.seen out.old) result
@@ -211,7 +211,7 @@ fn show_next<G: Image, K: Sink>(
         desk.new.pending (K.seen out.new) }
     ensures below { IfOk result (IsNewTurn met.now.keys) }
     ensures walked { OnOk result (IsWalked table.now number directory.new) }
-    ensures fewer { IfOk result (λ turn. IfGiven turn
+    ensures fewer { IfOk result (λ turn. IfTurnGiven turn
         (entries_most directory.new.walk < entries_most directory.old.walk)) }
     ensures desk { IsSameDesk desk.old desk.new }
     ensures copies { Copies G.Image K.Sink show_origin image.old image.new out.old out.new result }
@@ -251,7 +251,7 @@ pub(crate) fn show_entries<G: Image, K: Sink>(
     requires held { HasClusters (G.seen image.old).size table.now }
     requires block { vec_len desk.old.block ≡ table.now.geometry.record_size }
     requires walked { IsWalked table.now number directory.old }
-    ensures lists { Lists (IsTrue (G.seen image.old).is_told)
+    ensures lists { ListsOrStops (IsTrue (G.seen image.old).is_told)
         (λ (around : Around). before desk.old.pending (left_to_list desk.old.options table.now
         (G.seen image.old).content around front.now directory.old met.now.keys))
         (K.seen out.old) result

@@ -5,12 +5,12 @@ ghost use Rattle.ntfs_base.specs.Frames.{Copies, Gives, IfTold, OnlyReads, refus
 ghost use Rattle.ntfs_directory.specs.Directory.{begun_walk};
 ghost use Rattle.ntfs_directory.specs.Entries.{key_name};
 ghost use Rattle.ntfs_directory.specs.State.{left_of};
-ghost use Rattle.ntfs_show.specs.Descent.{IsBegunAt, IsDescent, IsIn, IsUp, MeetsOne, descent_most, left_of_descent, more_of_descent};
+ghost use Rattle.ntfs_show.specs.Descent.{IsBegunAt, IsDescent, HasEntered, IsBack, MeetsOne, descent_most, left_of_descent, more_of_descent};
 ghost use Rattle.ntfs_print.specs.Fault.{gather_refusal, show_origin};
 ghost use Rattle.ntfs_show.specs.ListState.{IsSameDesk, IsWalked};
-ghost use Rattle.ntfs_show.specs.Listing.{also_met, is_met, list_of, record_numbers};
+ghost use Rattle.ntfs_show.specs.Listing.{also_met, was_entered, list_of, record_numbers};
 ghost use Rattle.ntfs_print.specs.Printing.{before, prints};
-ghost use Rattle.ntfs_show.specs.Progress.{Lists};
+ghost use Rattle.ntfs_show.specs.Progress.{ListsOrStops};
 ghost use Rattle.ntfs_show.specs.declared.list_options.ListOptions.{ListOptions as Options};
 ghost use Rattle.ntfs_upcase.specs.Names.{text_bytes};
 ghost use Rattle.ntfs_volume.specs.Opened.{HasClusters};
@@ -114,9 +114,9 @@ impl Descent {
         requires held { HasClusters (G.seen image.old).size table.now }
         requires descent { IsDescent table.now record_numbers self.old }
         requires below { number < record_numbers }
-        requires new { is_met number self.old.met.keys ≡ false }
+        requires new { was_entered number self.old.met.keys ≡ false }
         ensures told { (o : Options) → IfTold G.Image image.old (λ content.
-            IsIn o table.now content record_numbers number self.old result self.new) }
+            HasEntered o table.now content record_numbers number self.old result self.new) }
         ensures descent { OnOk result (IsDescent table.now record_numbers self.new) }
         ensures fewer { OnOk result (descent_most record_numbers self.new < descent_most record_numbers self.old) }
         ensures reads { OnlyReads G.Image show_origin image.old image.new result }
@@ -133,7 +133,7 @@ impl Descent {
     /// Leaves the present directory; false where it is the start.
     fn leave(&mut self) -> bool
         requires { vec_len self.old.present.name ≤ vec_len self.old.path }
-        ensures up { result ≡ true → IsUp self.old self.new }
+        ensures up { result ≡ true → IsBack self.old self.new }
         ensures start { result ≡ false → self.old.above.items ≡ [] }
     {
         match self.above.pop() {
@@ -159,7 +159,7 @@ impl Descent {
         requires held { HasClusters (G.seen image.old).size table.now }
         requires block { vec_len desk.old.block ≡ table.now.geometry.record_size }
         requires descent { IsDescent table.now record_numbers self.old }
-        ensures lists { Lists (IsTrue (G.seen image.old).is_told)
+        ensures lists { ListsOrStops (IsTrue (G.seen image.old).is_told)
             (λ (all : Unit {0}). before desk.old.pending (left_of_descent desk.old.options table.now
             (G.seen image.old).content record_numbers self.old))
             (K.seen out.old) result
@@ -202,7 +202,7 @@ impl Descent {
         requires held { HasClusters (G.seen image.old).size table.now }
         requires block { vec_len desk.old.block ≡ table.now.geometry.record_size }
         requires descent { IsDescent table.now record_numbers self.old }
-        ensures lists { Lists (IsTrue (G.seen image.old).is_told)
+        ensures lists { ListsOrStops (IsTrue (G.seen image.old).is_told)
             (λ (all : Unit {0}). before desk.old.pending (left_of_descent desk.old.options table.now
             (G.seen image.old).content record_numbers self.old))
             (K.seen out.old) result (λ done all. before desk.new.pending (prints [])) desk.new.pending
@@ -253,7 +253,7 @@ pub(crate) fn list_from<G: Image, K: Sink>(
 ) -> Result<(), ShowFault>
     requires held { HasClusters (G.seen image.old).size table.now }
     requires block { vec_len desk.old.block ≡ table.now.geometry.record_size }
-    ensures lists { Lists (IsTrue (G.seen image.old).is_told)
+    ensures lists { ListsOrStops (IsTrue (G.seen image.old).is_told)
         (λ (all : Unit {0}). before desk.old.pending (list_of desk.old.options table.now (G.seen image.old).content
         start))
         (K.seen out.old) result (λ done all. before desk.new.pending (prints [])) desk.new.pending

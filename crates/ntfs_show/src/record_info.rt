@@ -10,7 +10,7 @@ ghost use Rattle.ntfs_print.specs.Fault.{show_origin};
 ghost use Rattle.ntfs_print.specs.Label.{kind_and_name};
 ghost use Rattle.ntfs_print.specs.Pending.{Pushes};
 ghost use Rattle.ntfs_print.specs.Printing.{Prints};
-ghost use Rattle.ntfs_show.specs.RecordInfo.{IsCutOff, IsRecordRefusal, OnlyPrints, all_keep_cells, attribute_lines, block_printing, body_text, caption_text, captioned, captioned_line, file_printing, has_right_cells, head_lines, highest_text, keeps_cells, line_if_right, record_printing, record_refusal, resident_text, runs_text, shown_attributes};
+ghost use Rattle.ntfs_show.specs.RecordInfo.{IsInterrupted, IsRecordRefusal, PrintsAlone, all_keep_cells, attribute_lines, block_printing, body_text, caption_text, captioned, captioned_line, file_printing, has_right_cells, head_lines, highest_text, keeps_cells, line_if_right, record_printing, record_refusal, resident_text, runs_text, shown_attributes};
 ghost use Rattle.ntfs_survey.specs.Owned.{runs_in};
 ghost use Rattle.ntfs_survey.specs.Surveying.{spells_cells};
 ghost use Rattle.ntfs_volume.specs.Opened.{HasClusters};
@@ -194,8 +194,8 @@ fn push_line<K: Sink>(
 ) -> Result<(), ShowFault>
     ensures pushes { Pushes (kind_and_name attribute.now.kind attribute.now.name.now ++ text.now) pending.old
         (K.seen out.old) result pending.new (K.seen out.new) }
-    ensures cut { IfErr result IsCutOff }
-    ensures prints { OnlyPrints K.Sink show_origin out.old out.new result }
+    ensures cut { IfErr result IsInterrupted }
+    ensures prints { PrintsAlone K.Sink show_origin out.old out.new result }
 {
     let label = kind_and_name(alloc, attribute.kind, attribute.name)?;
     pending.push(label.as_bytes(), out)?;
@@ -214,8 +214,8 @@ fn push_attribute<K: Sink>(
     ensures pushes { Pushes (line_if_right clusters (shown_view attribute.now)) pending.old (K.seen out.old) result
         pending.new (K.seen out.new) }
     ensures keeps { IfOk result (λ keeps. keeps ≡ has_right_cells clusters (shown_view attribute.now)) }
-    ensures cut { IfErr result IsCutOff }
-    ensures prints { OnlyPrints K.Sink show_origin out.old out.new result }
+    ensures cut { IfErr result IsInterrupted }
+    ensures prints { PrintsAlone K.Sink show_origin out.old out.new result }
 {
     let Some(text) = body_text(alloc, &attribute.body, clusters)? else {
         return Ok(false);
@@ -235,8 +235,8 @@ fn push_attributes<K: Sink>(
     ensures pushes { Pushes (attribute_lines clusters (shown_attributes view.now)) pending.old (K.seen out.old) result
         pending.new (K.seen out.new) }
     ensures keep { IfOk result (λ keep. keep ≡ all_keep_cells clusters (shown_attributes view.now)) }
-    ensures cut { IfErr result IsCutOff }
-    ensures prints { OnlyPrints K.Sink show_origin out.old out.new result }
+    ensures cut { IfErr result IsInterrupted }
+    ensures prints { PrintsAlone K.Sink show_origin out.old out.new result }
 {
     'attributes: for attribute in view.attributes() {
         if !push_attribute(alloc, &attribute, clusters, pending, out)? {
@@ -258,7 +258,7 @@ fn put_view<K: Sink>(
     ensures told { Prints show_origin (file_printing clusters number view.now) (K.seen out.old) result
         (K.seen out.new) }
     ensures listed { IfErr result (IsRecordRefusal number) }
-    ensures prints { OnlyPrints K.Sink show_origin out.old out.new result }
+    ensures prints { PrintsAlone K.Sink show_origin out.old out.new result }
 {
     let mut pending = Pending::new(alloc)?;
     pending.push(head_lines(number, view).as_bytes(), out)?;
@@ -285,7 +285,7 @@ fn put_block<K: Sink>(
     ensures told { Prints show_origin (block_printing clusters number block.now) (K.seen out.old) result
         (K.seen out.new) }
     ensures listed { IfErr result (IsRecordRefusal number) }
-    ensures prints { OnlyPrints K.Sink show_origin out.old out.new result }
+    ensures prints { PrintsAlone K.Sink show_origin out.old out.new result }
 {
     match parse(block) {
         Err(_) => Err(ShowFault::Damaged {

@@ -3,7 +3,7 @@
 ghost use Rattle.std.specs.Prelude.{◌≡◌, IfOk};
 ghost use Rattle.ntfs_base.specs.Frames.{Copies, Gives, IfTold, OnlyReads, Puts};
 ghost use Rattle.ntfs_boot.specs.Geometry.{IsOpened};
-ghost use Rattle.ntfs_show.specs.Cat.{cat_outcome, gathered_stream, shown_bytes};
+ghost use Rattle.ntfs_show.specs.Cat.{cat_outcome, gathered_stream, printed_bytes};
 ghost use Rattle.ntfs_print.specs.Fault.{show_origin};
 ghost use Rattle.ntfs_volume.specs.Opened.{HasClusters};
 ghost use Rattle.ntfs_volume.specs.Streams.{IsReadable};
@@ -47,7 +47,7 @@ fn put_gathered<G: Image, K: Sink>(
     requires opened { IsOpened (G.seen image.old).size geometry.now }
     requires readable { IsReadable geometry.now stream.now.stream }
     ensures told { IfTold G.Image image.old (λ content.
-        Puts show_origin (shown_bytes geometry.now content stream.now.stream) (K.seen out.old) result
+        Puts show_origin (printed_bytes geometry.now content stream.now.stream) (K.seen out.old) result
         (K.seen out.new)) }
     ensures copies { Copies G.Image K.Sink show_origin image.old image.new out.old out.new result }
 {

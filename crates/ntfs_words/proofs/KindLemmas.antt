@@ -6,7 +6,7 @@ use Rattle.ntfs_base.specs.Frames.{must, ◌>>=◌}
 use Rattle.ntfs_base.specs.declared.refusal.UsageKind.TheVariants as usage
 use Rattle.ntfs_words.specs.Answers.{CanFail}
 use Rattle.ntfs_words.specs.Cat.{cat_asked, cat_request, cat_target}
-use Rattle.ntfs_words.specs.Clone.{are_same, clone_asked, clone_request, has_clash, has_gap, output_of}
+use Rattle.ntfs_words.specs.Clone.{are_same, clone_asked, clone_request, has_clash, has_gap, output_word}
 use Rattle.ntfs_words.specs.Cluster.{ask_in, cluster_asked, cluster_request}
 use Rattle.ntfs_words.specs.Cp.{cp_asked, cp_request, cp_target}
 use Rattle.ntfs_words.specs.Fix.{fix_asked, fix_request}
@@ -17,7 +17,7 @@ use Rattle.ntfs_words.specs.Ls.{ls_asked, ls_request}
 use Rattle.ntfs_words.specs.Make.{make_asked, make_request}
 use Rattle.ntfs_words.specs.Resize.{resize_asked, resize_request}
 use Rattle.ntfs_words.specs.Trial.{trial_asked, trial_request}
-use Rattle.ntfs_words.specs.Values.{combination, kind_in, no_number, number_in, number_word, range_word, same_name, size_in}
+use Rattle.ntfs_words.specs.Values.{combination, kind_in, no_number, number_in, number_word, range_word, same_name_usage, size_in}
 use Rattle.ntfs_words.specs.Words.{tool_asked}
 use Rattle.ntfs_words.specs.declared.request.Request.{Request}
 use Rattle.ntfs_words.specs.declared.request.WordsFault.{WordsFault}
@@ -143,7 +143,7 @@ unfolding clone_asked clone_request
 clone words =
     let P = CanFail (Some Clone) in
     after P _ _ (line P _ words tt) (λ rows. after P _ _ (tested P (not (has_clash rows || has_gap rows)) combination tt) (λ fit.
-    after P _ _ (tested P (not (are_same (text_of (codes "SOURCE") rows) (output_of rows))) same_name tt) (λ other. no_fault P _)))
+    after P _ _ (tested P (not (are_same (text_of (codes "SOURCE") rows) (output_word rows))) same_name_usage tt) (λ other. no_fault P _)))
 
 resize : (words : List Text) → Fails (CanFail (Some Resize)) (resize_asked words)
 unfolding resize_asked resize_request

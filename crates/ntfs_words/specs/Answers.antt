@@ -29,7 +29,7 @@ HasRanges (request.Make file seed clusters cluster) = IsTrue (is_in_range cluste
 HasRanges other = Unit {0}
 
 -- a request of this tool, with its numbers in their ranges
-pub record IsOf (tool : Tool) (request : Request) : Type 0 where
+pub record IsRequestOf (tool : Tool) (request : Request) : Type 0 where
   pub tool_is : tool_for request ≡ tool
   pub ranges : HasRanges request
 

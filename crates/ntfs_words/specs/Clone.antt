@@ -6,7 +6,7 @@ use Rattle.std.specs.Str.{byte, bytes_eq}
 use Rattle.clap.specs.Words.{App, Row, Text}
 use Rattle.ntfs_base.specs.Frames.{must, ◌>>=◌}
 use Rattle.ntfs_words.specs.Line.{app_with, flag, is_given, is_on, line_of, optional, text_of, valued}
-use Rattle.ntfs_words.specs.Values.{combination, same_name}
+use Rattle.ntfs_words.specs.Values.{combination, same_name_usage}
 use Rattle.ntfs_words.specs.declared.request.Request.{Request}
 use Rattle.ntfs_words.specs.declared.request.Request.TheVariants as request
 use Rattle.ntfs_words.specs.declared.request.WordsFault.{WordsFault}
@@ -49,16 +49,16 @@ are_same (Some first) (Some second) = bytes_eq first second
 are_same first second = false
 
 -- the output's name
-abbrev pub output_of : List Row → Option Text
-output_of rows = option_or (text_of (codes "output") rows) (text_of (codes "overwrite") rows)
+abbrev pub output_word : List Row → Option Text
+output_word rows = option_or (text_of (codes "output") rows) (text_of (codes "overwrite") rows)
 
 -- what a line that is taken asks for
 unfoldable pub clone_request : List Row → Result Request WordsFault
 clone_request rows = do
   fit ← must (not (has_clash rows || has_gap rows)) combination
-  other ← must (not (are_same (text_of (codes "SOURCE") rows) (output_of rows))) same_name
+  other ← must (not (are_same (text_of (codes "SOURCE") rows) (output_word rows))) same_name_usage
   Ok (request.Clone (is_on (codes "save-image") rows) (is_on (codes "restore-image") rows)
-      (is_on (codes "no-action") rows) (is_on (codes "force") rows) (output_of rows)
+      (is_on (codes "no-action") rows) (is_on (codes "force") rows) (output_word rows)
       (is_given (codes "overwrite") rows) (text_of (codes "SOURCE") rows))
 
 -- the words of ntfsclone

@@ -5,7 +5,7 @@ use Rattle.std.specs.Str.{byte, bytes_eq}
 use Rattle.clap.specs.Words.{App, Row, Text}
 use Rattle.ntfs_base.specs.Frames.{must, ◌>>=◌}
 use Rattle.ntfs_words.specs.Line.{app_with, flag, is_on, line_of, needed, text_of, valued, word_of}
-use Rattle.ntfs_words.specs.Values.{kind_in, number_word, same_name}
+use Rattle.ntfs_words.specs.Values.{kind_in, number_word, same_name_usage}
 use Rattle.ntfs_words.specs.declared.request.Request.{Request}
 use Rattle.ntfs_words.specs.declared.request.Request.TheVariants as request
 use Rattle.ntfs_words.specs.declared.request.Target.{Target}
@@ -39,7 +39,7 @@ cp_request rows = do
   dest ← word_of (codes "DEST") rows
   stream ← cp_target (is_on (codes "inode") rows) dest
   kind ← kind_in (text_of (codes "attribute") rows)
-  other ← must (not (bytes_eq image source)) same_name
+  other ← must (not (bytes_eq image source)) same_name_usage
   Ok (request.Cp kind (text_of (codes "attr-name") rows) (is_on (codes "no-action") rows) image source stream)
 
 -- the words of ntfscp

@@ -97,9 +97,9 @@ unfoldable pub word_of : Text → List Row → Result Text WordsFault
 word_of id rows = ok_or (text_of id rows) (Usage usage.Line)
 
 -- what clap refuses is the line, but for want of memory
-abbrev pub refusal_of : ErrorKind → WordsFault
-refusal_of OutOfMemory = NoMemory
-refusal_of kind = Usage usage.Line
+abbrev pub clap_refusal : ErrorKind → WordsFault
+clap_refusal OutOfMemory = NoMemory
+clap_refusal kind = Usage usage.Line
 
 -- a word that begins with a hyphen (45), as options do
 unfoldable pub begins_with_hyphen : Text → Bool

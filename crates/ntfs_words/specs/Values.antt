@@ -21,8 +21,8 @@ abbrev pub no_number : WordsFault
 no_number = Usage usage.Number
 
 -- two host files of one name
-abbrev pub same_name : WordsFault
-same_name = Usage usage.SameName
+abbrev pub same_name_usage : WordsFault
+same_name_usage = Usage usage.SameName
 
 -- the number of a word
 abbrev pub number_word : Text → Result ℕ WordsFault

@@ -1,7 +1,7 @@
 //! The words of ntfscat.
 ghost use Rattle.std.specs.Prelude.{◌≡◌, IfOk, map, option_map, string_bytes};
 ghost use Rattle.clap.specs.Words.{app_of};
-ghost use Rattle.ntfs_words.specs.Answers.{IsOf};
+ghost use Rattle.ntfs_words.specs.Answers.{IsRequestOf};
 ghost use Rattle.ntfs_words.specs.Cat.{cat_app, cat_asked, cat_request, cat_target};
 ghost use Rattle.ntfs_words.specs.Line.{Reads};
 
@@ -18,7 +18,7 @@ use std::alloc::{AllocError, Global};
 #[tactic(auto, using(crate::proofs::SimpleLemmas::cat_is_simple), unfolding(crate::specs::Cat::cat_asked))]
 pub(crate) fn read_cat(alloc: Global, words: &[String]) -> Result<Request, WordsFault>
     ensures reads { Reads (cat_asked (map string_bytes words.now)) result }
-    ensures request { IfOk result (IsOf Tool.Cat) }
+    ensures request { IfOk result (IsRequestOf Tool.Cat) }
 {
     let line = read_line(cat_command(alloc)?, words)?;
     cat_request(alloc, &line)
@@ -53,7 +53,7 @@ fn cat_command<'a>(alloc: Global) -> Result<Command<'a>, AllocError>
 #[tactic(auto, unfolding(crate::specs::Cat::cat_request))]
 fn cat_request(alloc: Global, line: &Line) -> Result<Request, WordsFault>
     ensures reads { Reads (cat_request line.now) result }
-    ensures request { IfOk result (IsOf Tool.Cat) }
+    ensures request { IfOk result (IsRequestOf Tool.Cat) }
 {
     let image = line.word("IMAGE")?;
     let target = cat_target(alloc, line.text("inode"), line.text("FILE"))?;

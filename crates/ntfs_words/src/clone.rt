@@ -1,8 +1,8 @@
 //! The words of ntfsclone.
 ghost use Rattle.std.specs.Prelude.{◌≡◌, IfOk, map, option_map, string_bytes};
 ghost use Rattle.clap.specs.Words.{app_of};
-ghost use Rattle.ntfs_words.specs.Answers.{IsOf};
-ghost use Rattle.ntfs_words.specs.Clone.{are_same, clone_app, clone_asked, clone_request, has_clash, has_gap, has_output, output_of};
+ghost use Rattle.ntfs_words.specs.Answers.{IsRequestOf};
+ghost use Rattle.ntfs_words.specs.Clone.{are_same, clone_app, clone_asked, clone_request, has_clash, has_gap, has_output, output_word};
 ghost use Rattle.ntfs_words.specs.Line.{Reads};
 
 use crate::line::{Line, read_line};
@@ -10,7 +10,7 @@ use crate::part::{Part, command_of};
 use crate::request::{Request, WordsFault};
 use crate::text::text_in;
 use crate::tool::Tool;
-use crate::values::{combination, same_name};
+use crate::values::{combination, same_name_usage};
 use clap::Command;
 use std::alloc::{AllocError, Global};
 
@@ -19,7 +19,7 @@ use std::alloc::{AllocError, Global};
 #[tactic(auto, using(crate::proofs::SimpleLemmas::clone_is_simple), unfolding(crate::specs::Clone::clone_asked))]
 pub(crate) fn read_clone(alloc: Global, words: &[String]) -> Result<Request, WordsFault>
     ensures reads { Reads (clone_asked (map string_bytes words.now)) result }
-    ensures request { IfOk result (IsOf Tool.Clone) }
+    ensures request { IfOk result (IsRequestOf Tool.Clone) }
 {
     let line = read_line(clone_command(alloc)?, words)?;
     clone_request(alloc, &line)
@@ -65,15 +65,15 @@ fn clone_command<'a>(alloc: Global) -> Result<Command<'a>, AllocError>
 #[tactic(auto, unfolding(crate::specs::Clone::clone_request))]
 fn clone_request(alloc: Global, line: &Line) -> Result<Request, WordsFault>
     ensures reads { Reads (clone_request line.now) result }
-    ensures request { IfOk result (IsOf Tool.Clone) }
+    ensures request { IfOk result (IsRequestOf Tool.Clone) }
 {
     if has_clash(line) || has_gap(line) {
         return Err(combination());
     }
     let source = line.text("SOURCE");
-    let output = output_of(line);
+    let output = output_word(line);
     if are_same(source, output) {
-        return Err(same_name());
+        return Err(same_name_usage());
     }
     Ok(Request::Clone {
         save: line.is_on("save-image"),
@@ -118,8 +118,8 @@ fn has_output(line: &Line) -> bool
 }
 
 /// The output's name.
-fn output_of<'a>(line: &Line<'a>) -> Option<&'a str>
-    ensures { option_map (λ text. text.now) result ≡ output_of line.now }
+fn output_word<'a>(line: &Line<'a>) -> Option<&'a str>
+    ensures { option_map (λ text. text.now) result ≡ output_word line.now }
 {
     match line.text("output") {
         Some(output) => Some(output),

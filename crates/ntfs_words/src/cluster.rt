@@ -1,7 +1,7 @@
 //! The words of ntfscluster.
 ghost use Rattle.std.specs.Prelude.{◌≡◌, IfOk, map, option_map, string_bytes};
 ghost use Rattle.clap.specs.Words.{app_of};
-ghost use Rattle.ntfs_words.specs.Answers.{IsOf};
+ghost use Rattle.ntfs_words.specs.Answers.{IsRequestOf};
 ghost use Rattle.ntfs_words.specs.Cluster.{ask_in, cluster_app, cluster_asked, cluster_request};
 ghost use Rattle.ntfs_words.specs.Line.{Reads};
 
@@ -18,7 +18,7 @@ use std::alloc::{AllocError, Global};
 #[tactic(auto, using(crate::proofs::SimpleLemmas::cluster_is_simple), unfolding(crate::specs::Cluster::cluster_asked))]
 pub(crate) fn read_cluster(alloc: Global, words: &[String]) -> Result<Request, WordsFault>
     ensures reads { Reads (cluster_asked (map string_bytes words.now)) result }
-    ensures request { IfOk result (IsOf Tool.Cluster) }
+    ensures request { IfOk result (IsRequestOf Tool.Cluster) }
 {
     let line = read_line(cluster_command(alloc)?, words)?;
     cluster_request(alloc, &line)
@@ -56,7 +56,7 @@ fn cluster_command<'a>(alloc: Global) -> Result<Command<'a>, AllocError>
 #[tactic(auto, unfolding(crate::specs::Cluster::cluster_request))]
 fn cluster_request(alloc: Global, line: &Line) -> Result<Request, WordsFault>
     ensures reads { Reads (cluster_request line.now) result }
-    ensures request { IfOk result (IsOf Tool.Cluster) }
+    ensures request { IfOk result (IsRequestOf Tool.Cluster) }
 {
     let image = line.word("IMAGE")?;
     let info = line.is_on("info");

@@ -1,7 +1,7 @@
 //! The words of ntfscp.
 ghost use Rattle.std.specs.Prelude.{◌≡◌, IfOk, map, string_bytes};
 ghost use Rattle.clap.specs.Words.{app_of};
-ghost use Rattle.ntfs_words.specs.Answers.{IsOf};
+ghost use Rattle.ntfs_words.specs.Answers.{IsRequestOf};
 ghost use Rattle.ntfs_words.specs.Cp.{cp_app, cp_asked, cp_request, cp_target};
 ghost use Rattle.ntfs_words.specs.Line.{Reads};
 
@@ -10,7 +10,7 @@ use crate::part::{Part, command_of};
 use crate::request::{Request, Target, WordsFault};
 use crate::text::{Text, text_in};
 use crate::tool::Tool;
-use crate::values::{kind_in, number_word, same_name};
+use crate::values::{kind_in, number_word, same_name_usage};
 use clap::Command;
 use std::alloc::{AllocError, Global};
 
@@ -18,7 +18,7 @@ use std::alloc::{AllocError, Global};
 #[tactic(auto, using(crate::proofs::SimpleLemmas::cp_is_simple), unfolding(crate::specs::Cp::cp_asked))]
 pub(crate) fn read_cp(alloc: Global, words: &[String]) -> Result<Request, WordsFault>
     ensures reads { Reads (cp_asked (map string_bytes words.now)) result }
-    ensures request { IfOk result (IsOf Tool.Cp) }
+    ensures request { IfOk result (IsRequestOf Tool.Cp) }
 {
     let line = read_line(cp_command(alloc)?, words)?;
     cp_request(alloc, &line)
@@ -58,14 +58,14 @@ fn cp_command<'a>(alloc: Global) -> Result<Command<'a>, AllocError>
 #[tactic(auto, unfolding(crate::specs::Cp::cp_request))]
 fn cp_request(alloc: Global, line: &Line) -> Result<Request, WordsFault>
     ensures reads { Reads (cp_request line.now) result }
-    ensures request { IfOk result (IsOf Tool.Cp) }
+    ensures request { IfOk result (IsRequestOf Tool.Cp) }
 {
     let image = line.word("IMAGE")?;
     let source = line.word("SOURCE")?;
     let target = cp_target(alloc, line.is_on("inode"), line.word("DEST")?)?;
     let kind = kind_in(line.text("attribute"))?;
     if image == source {
-        return Err(same_name());
+        return Err(same_name_usage());
     }
     Ok(Request::Cp {
         kind,

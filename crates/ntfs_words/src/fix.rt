@@ -1,7 +1,7 @@
 //! The words of ntfsfix.
 ghost use Rattle.std.specs.Prelude.{◌≡◌, IfOk, map, string_bytes};
 ghost use Rattle.clap.specs.Words.{app_of};
-ghost use Rattle.ntfs_words.specs.Answers.{IsOf};
+ghost use Rattle.ntfs_words.specs.Answers.{IsRequestOf};
 ghost use Rattle.ntfs_words.specs.Fix.{fix_app, fix_asked, fix_request};
 ghost use Rattle.ntfs_words.specs.Line.{Reads};
 
@@ -18,7 +18,7 @@ use std::alloc::{AllocError, Global};
 #[tactic(auto, using(crate::proofs::SimpleLemmas::fix_is_simple), unfolding(crate::specs::Fix::fix_asked))]
 pub(crate) fn read_fix(alloc: Global, words: &[String]) -> Result<Request, WordsFault>
     ensures reads { Reads (fix_asked (map string_bytes words.now)) result }
-    ensures request { IfOk result (IsOf Tool.Fix) }
+    ensures request { IfOk result (IsRequestOf Tool.Fix) }
 {
     let line = read_line(fix_command(alloc)?, words)?;
     fix_request(alloc, &line)
@@ -53,7 +53,7 @@ fn fix_command<'a>(alloc: Global) -> Result<Command<'a>, AllocError>
 #[tactic(auto, unfolding(crate::specs::Fix::fix_request))]
 fn fix_request(alloc: Global, line: &Line) -> Result<Request, WordsFault>
     ensures reads { Reads (fix_request line.now) result }
-    ensures request { IfOk result (IsOf Tool.Fix) }
+    ensures request { IfOk result (IsRequestOf Tool.Fix) }
 {
     let image = line.word("IMAGE")?;
     let no_action = line.is_on("no-action");

@@ -1,7 +1,7 @@
 //! The words of ntfsinfo.
 ghost use Rattle.std.specs.Prelude.{◌≡◌, IfOk, map, string_bytes};
 ghost use Rattle.clap.specs.Words.{app_of};
-ghost use Rattle.ntfs_words.specs.Answers.{IsOf};
+ghost use Rattle.ntfs_words.specs.Answers.{IsRequestOf};
 ghost use Rattle.ntfs_words.specs.Info.{info_app, info_asked, info_request};
 ghost use Rattle.ntfs_words.specs.Line.{Reads};
 
@@ -18,7 +18,7 @@ use std::alloc::{AllocError, Global};
 #[tactic(auto, using(crate::proofs::SimpleLemmas::info_is_simple), unfolding(crate::specs::Info::info_asked))]
 pub(crate) fn read_info(alloc: Global, words: &[String]) -> Result<Request, WordsFault>
     ensures reads { Reads (info_asked (map string_bytes words.now)) result }
-    ensures request { IfOk result (IsOf Tool.Info) }
+    ensures request { IfOk result (IsRequestOf Tool.Info) }
 {
     let line = read_line(info_command(alloc)?, words)?;
     info_request(alloc, &line)
@@ -48,7 +48,7 @@ fn info_command<'a>(alloc: Global) -> Result<Command<'a>, AllocError>
 #[tactic(auto, unfolding(crate::specs::Info::info_request))]
 fn info_request(alloc: Global, line: &Line) -> Result<Request, WordsFault>
     ensures reads { Reads (info_request line.now) result }
-    ensures request { IfOk result (IsOf Tool.Info) }
+    ensures request { IfOk result (IsRequestOf Tool.Info) }
 {
     let image = line.word("IMAGE")?;
     let mft = line.is_on("mft");

@@ -1,7 +1,7 @@
 //! A line that a tool's command takes.
 ghost use Rattle.std.specs.Prelude.{◌≡◌, IfOk, IfErr, true, map, option_map, string_bytes};
 ghost use Rattle.clap.specs.Words.{app_of, is_simple_and_free};
-ghost use Rattle.ntfs_words.specs.Line.{Reads, is_given, is_on, line_of, refusal_of, text_of, word_of};
+ghost use Rattle.ntfs_words.specs.Line.{Reads, is_given, is_on, line_of, clap_refusal, text_of, word_of};
 
 use crate::request::WordsFault;
 use clap::error::ErrorKind;
@@ -76,13 +76,13 @@ pub(crate) fn read_line<'a>(
 {
     match command.try_get_matches_from(words) {
         Ok(matches) => Ok(Line { matches }),
-        Err(error) => Err(refusal_of(error.kind())),
+        Err(error) => Err(clap_refusal(error.kind())),
     }
 }
 
 /// Every kind of refusal is the line's, but for want of memory.
-fn refusal_of(kind: ErrorKind) -> WordsFault
-    ensures { result ≡ refusal_of kind }
+fn clap_refusal(kind: ErrorKind) -> WordsFault
+    ensures { result ≡ clap_refusal kind }
 {
     match kind {
         ErrorKind::OutOfMemory => WordsFault::NoMemory,

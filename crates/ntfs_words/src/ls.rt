@@ -1,7 +1,7 @@
 //! The words of ntfsls.
 ghost use Rattle.std.specs.Prelude.{◌≡◌, IfOk, map, string_bytes};
 ghost use Rattle.clap.specs.Words.{app_of};
-ghost use Rattle.ntfs_words.specs.Answers.{IsOf};
+ghost use Rattle.ntfs_words.specs.Answers.{IsRequestOf};
 ghost use Rattle.ntfs_words.specs.Ls.{ls_app, ls_asked, ls_request};
 ghost use Rattle.ntfs_words.specs.Line.{Reads};
 
@@ -17,7 +17,7 @@ use std::alloc::{AllocError, Global};
 #[tactic(auto, using(crate::proofs::SimpleLemmas::ls_is_simple), unfolding(crate::specs::Ls::ls_asked))]
 pub(crate) fn read_ls(alloc: Global, words: &[String]) -> Result<Request, WordsFault>
     ensures reads { Reads (ls_asked (map string_bytes words.now)) result }
-    ensures request { IfOk result (IsOf Tool.Ls) }
+    ensures request { IfOk result (IsRequestOf Tool.Ls) }
 {
     let line = read_line(ls_command(alloc)?, words)?;
     ls_request(alloc, &line)
@@ -67,7 +67,7 @@ fn ls_command<'a>(alloc: Global) -> Result<Command<'a>, AllocError>
 #[tactic(auto, unfolding(crate::specs::Ls::ls_request))]
 fn ls_request(alloc: Global, line: &Line) -> Result<Request, WordsFault>
     ensures reads { Reads (ls_request line.now) result }
-    ensures request { IfOk result (IsOf Tool.Ls) }
+    ensures request { IfOk result (IsRequestOf Tool.Ls) }
 {
     let image = line.word("IMAGE")?;
     Ok(Request::Ls {

@@ -1,7 +1,7 @@
 //! The words of ntfsmake.
 ghost use Rattle.std.specs.Prelude.{◌≡◌, IfOk, map, ◌≤◌, Ok, Err, true, if◌then◌else◌, string_bytes};
 ghost use Rattle.clap.specs.Words.{app_of};
-ghost use Rattle.ntfs_words.specs.Answers.{IsOf};
+ghost use Rattle.ntfs_words.specs.Answers.{IsRequestOf};
 ghost use Rattle.ntfs_words.specs.Make.{is_cluster_size, is_in_range, make_app, make_asked, make_request};
 ghost use Rattle.ntfs_words.specs.Line.{Reads};
 ghost use Rattle.ntfs_words.specs.Values.{no_number};
@@ -19,7 +19,7 @@ use std::alloc::{AllocError, Global};
 #[tactic(auto, using(crate::proofs::SimpleLemmas::make_is_simple), unfolding(crate::specs::Make::make_asked))]
 pub(crate) fn read_make(alloc: Global, words: &[String]) -> Result<Request, WordsFault>
     ensures reads { Reads (make_asked (map string_bytes words.now)) result }
-    ensures request { IfOk result (IsOf Tool.Make) }
+    ensures request { IfOk result (IsRequestOf Tool.Make) }
 {
     let line = read_line(make_command(alloc)?, words)?;
     make_request(alloc, &line)
@@ -44,7 +44,7 @@ fn make_command<'a>(alloc: Global) -> Result<Command<'a>, AllocError>
 #[tactic(auto, unfolding(crate::specs::Make::make_request))]
 fn make_request(alloc: Global, line: &Line) -> Result<Request, WordsFault>
     ensures reads { Reads (make_request line.now) result }
-    ensures request { IfOk result (IsOf Tool.Make) }
+    ensures request { IfOk result (IsRequestOf Tool.Make) }
 {
     let file = line.word("FILE")?;
     let seed = line.word("SEED")?;

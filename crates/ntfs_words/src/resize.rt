@@ -1,7 +1,7 @@
 //! The words of ntfsresize.
 ghost use Rattle.std.specs.Prelude.{◌≡◌, IfOk, map, string_bytes};
 ghost use Rattle.clap.specs.Words.{app_of};
-ghost use Rattle.ntfs_words.specs.Answers.{IsOf};
+ghost use Rattle.ntfs_words.specs.Answers.{IsRequestOf};
 ghost use Rattle.ntfs_words.specs.Resize.{resize_app, resize_asked, resize_request};
 ghost use Rattle.ntfs_words.specs.Line.{Reads};
 
@@ -18,7 +18,7 @@ use std::alloc::{AllocError, Global};
 #[tactic(auto, using(crate::proofs::SimpleLemmas::resize_is_simple), unfolding(crate::specs::Resize::resize_asked))]
 pub(crate) fn read_resize(alloc: Global, words: &[String]) -> Result<Request, WordsFault>
     ensures reads { Reads (resize_asked (map string_bytes words.now)) result }
-    ensures request { IfOk result (IsOf Tool.Resize) }
+    ensures request { IfOk result (IsRequestOf Tool.Resize) }
 {
     let line = read_line(resize_command(alloc)?, words)?;
     resize_request(alloc, &line)
@@ -56,7 +56,7 @@ fn resize_command<'a>(alloc: Global) -> Result<Command<'a>, AllocError>
 #[tactic(auto, unfolding(crate::specs::Resize::resize_request))]
 fn resize_request(alloc: Global, line: &Line) -> Result<Request, WordsFault>
     ensures reads { Reads (resize_request line.now) result }
-    ensures request { IfOk result (IsOf Tool.Resize) }
+    ensures request { IfOk result (IsRequestOf Tool.Resize) }
 {
     let image = line.word("IMAGE")?;
     let info = line.is_on("info");

@@ -1,7 +1,7 @@
 //! The words of ntfstrial.
 ghost use Rattle.std.specs.Prelude.{◌≡◌, IfOk, map, string_bytes};
 ghost use Rattle.clap.specs.Words.{app_of};
-ghost use Rattle.ntfs_words.specs.Answers.{IsOf};
+ghost use Rattle.ntfs_words.specs.Answers.{IsRequestOf};
 ghost use Rattle.ntfs_words.specs.Trial.{trial_app, trial_asked, trial_request};
 ghost use Rattle.ntfs_words.specs.Line.{Reads};
 
@@ -18,7 +18,7 @@ use std::alloc::{AllocError, Global};
 #[tactic(auto, using(crate::proofs::SimpleLemmas::trial_is_simple), unfolding(crate::specs::Trial::trial_asked))]
 pub(crate) fn read_trial(alloc: Global, words: &[String]) -> Result<Request, WordsFault>
     ensures reads { Reads (trial_asked (map string_bytes words.now)) result }
-    ensures request { IfOk result (IsOf Tool.Trial) }
+    ensures request { IfOk result (IsRequestOf Tool.Trial) }
 {
     let line = read_line(trial_command(alloc)?, words)?;
     trial_request(alloc, &line)
@@ -38,7 +38,7 @@ fn trial_command<'a>(alloc: Global) -> Result<Command<'a>, AllocError>
 #[tactic(auto, unfolding(crate::specs::Trial::trial_request))]
 fn trial_request(alloc: Global, line: &Line) -> Result<Request, WordsFault>
     ensures reads { Reads (trial_request line.now) result }
-    ensures request { IfOk result (IsOf Tool.Trial) }
+    ensures request { IfOk result (IsRequestOf Tool.Trial) }
 {
     let seed = line.word("SEED")?;
     let name = line.word("NAME")?;

@@ -1,6 +1,6 @@
 //! Values of options, and the refusals of lines that a command takes.
 ghost use Rattle.std.specs.Prelude.{◌≡◌, option_map};
-ghost use Rattle.ntfs_words.specs.Values.{combination, is_one, kind_in, no_number, number_in, number_word, range_word, same_name, size_in};
+ghost use Rattle.ntfs_words.specs.Values.{combination, is_one, kind_in, no_number, number_in, number_word, range_word, same_name_usage, size_in};
 
 use crate::number::{kind_of, number_of, range_of, size_of};
 use crate::request::WordsFault;
@@ -32,8 +32,8 @@ pub(crate) fn no_number() -> WordsFault
 }
 
 /// Two host files of one name.
-pub(crate) fn same_name() -> WordsFault
-    ensures { result ≡ same_name }
+pub(crate) fn same_name_usage() -> WordsFault
+    ensures { result ≡ same_name_usage }
 {
     WordsFault::Usage {
         kind: UsageKind::SameName,

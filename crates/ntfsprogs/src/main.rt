@@ -51,10 +51,12 @@ fn exit_status(rt: &HostRuntime) -> u8 {
 fn access_of(tool: Option<Tool>) -> Access
     ensures makes { tool ≡ Some Tool.Make → result ≡ Access.ReadWrite }
     ensures clones { tool ≡ Some Tool.Clone → result ≡ Access.ReadWrite }
-    ensures shows { result ≡ Access.ReadWrite → (tool ≡ Some Tool.Make) ⊎ (tool ≡ Some Tool.Clone) }
+    ensures tries { tool ≡ Some Tool.Trial → result ≡ Access.ReadWrite }
+    ensures shows { result ≡ Access.ReadWrite
+        → (tool ≡ Some Tool.Make) ⊎ ((tool ≡ Some Tool.Clone) ⊎ (tool ≡ Some Tool.Trial)) }
 {
     match tool {
-        Some(Tool::Make | Tool::Clone) => Access::ReadWrite,
+        Some(Tool::Make | Tool::Clone | Tool::Trial) => Access::ReadWrite,
         _ => Access::ReadOnly,
     }
 }

@@ -3,7 +3,7 @@ use Rattle.ntfs_base.proofs.FramesLemmas.{told_still}
 use Rattle.ntfs_check_directories.proofs.RowLemmas.{IsRow, name-read, ordered-end, ordered-fault, ordered-refused, ordered-start, ordered-taken, ordered_behind, row-none}
 use Rattle.ntfs_check_directories.proofs.order.is_rest_ordered.Goals as goal
 use Rattle.ntfs_check_directories.proofs.order.is_rest_ordered.Goals.{in-None, in-Some}
-use Rattle.ntfs_check_directories.specs.Row.{may_follow, row_of}
+use Rattle.ntfs_check_directories.specs.Row.{name_may_follow, row_of}
 use Rattle.ntfs_directory.specs.Entries.{key_name}
 use Rattle.ntfs_directory.specs.State.{IsNextEntry, left_of}
 use Rattle.ntfs_index.specs.Node.{IndexEntry}
@@ -57,7 +57,7 @@ returns-then-not-branch-clause-found g c told =
     c.entries.invariant.seen (c.in-Ok-Some.ensures.told c.entries.invariant.sound) in
     let step = rw c.in-Ok-Some.field-0-is at (next told) in
     let read = name-read key _ (c.name_in_key.ensures ∙ ap key_name c.key.ensures) in
-    let may : may_follow upper c.entries.row (name_of key) ≡ false = ap (may_follow upper c.entries.row) (sym read) ∙ sym c.in_ok-take-in-Ok-Some.ensures.may ∙ c.if-not-branch.true in
+    let may : name_may_follow upper c.entries.row (name_of key) ≡ false = ap (name_may_follow upper c.entries.row) (sym read) ∙ sym c.in_ok-take-in-Ok-Some.ensures.may ∙ c.if-not-branch.true in
     sym (sym (c.entries.invariant.same told) ∙ ap (ordered_behind upper c.entries.row) step
     ∙ ordered-refused upper c.entries.row entry (left_of k (g.G.Image.seen c.args.image.now).content c.next.new.self) may)
 
@@ -75,7 +75,7 @@ entries-preserved g c =
     (λ content. IsNextEntry (left_of k content c.entries.directory) (Ok c.in-Ok-Some.field-0) (left_of k content new) key)
     c.entries.invariant.seen (done.told c.entries.invariant.sound) in
     let read = name-read key _ (c.name_in_key.ensures ∙ ap key_name c.key.ensures) in
-    let may : may_follow upper c.entries.row (name_of key) ≡ true = ap (may_follow upper c.entries.row) (sym read) ∙ sym c.in_ok-take-in-Ok-Some.ensures.may ∙ c.if-not-branch.false in
+    let may : name_may_follow upper c.entries.row (name_of key) ≡ true = ap (name_may_follow upper c.entries.row) (sym read) ∙ sym c.in_ok-take-in-Ok-Some.ensures.may ∙ c.if-not-branch.false in
     let row : c.take.new.self ≡ row_of upper c.entries.row (name_of key) = c.in_ok-take-in-Ok-Some.ensures.row c.if-not-branch.false ∙ ap (row_of upper c.entries.row) read in
     let taken = ordered-taken upper c.entries.row entry (left_of k (g.G.Image.seen c.args.image.now).content new) c.entries.invariant.row may in
     record {

@@ -1,7 +1,7 @@
 use Rattle.ntfs_base.specs.Bytes.{cluster_at}
 use Rattle.ntfs_check_files.proofs.BaseLemmas.{base-read, base-unread}
 use Rattle.ntfs_check_files.proofs.bases.names_base.Goals as goal
-use Rattle.ntfs_check_files.specs.Asked.{records_of}
+use Rattle.ntfs_check_records.specs.Reading.{records_of}
 
 pub returns-in-Ok-None-clause-answers : goal.returns-in-Ok-None-clause-answers
 returns-in-Ok-None-clause-answers g c told whole =

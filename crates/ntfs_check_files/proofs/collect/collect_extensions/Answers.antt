@@ -3,7 +3,7 @@ use Rattle.ntfs_base.proofs.FramesLemmas.{told_still}
 use Rattle.ntfs_base.specs.Bytes.{cluster_at}
 use Rattle.ntfs_boot.specs.declared.geometry.Geometry.{Geometry}
 use Rattle.ntfs_check_files.proofs.CollectLemmas.{all-taken, taken-from, taken-more}
-use Rattle.ntfs_check_files.proofs.SearchLemmas.{scan-fits, scan-some}
+use Rattle.ntfs_check_records.proofs.SearchLemmas.{scan-fits, scan-some}
 use Rattle.ntfs_check_files.proofs.collect.collect_extensions.Goals as goal
 use Rattle.ntfs_check_files.specs.Extending.{HasTaken}
 use Rattle.ntfs_survey.specs.Surveying.{record_at}

@@ -1,6 +1,6 @@
 use Rattle.std.proofs.Common.{◌+◌, ◌∙◌, arith, length, refl, Some}
 use Rattle.ntfs_check_files.proofs.CollectLemmas.{held-slot, taken-none, taken-one}
-use Rattle.ntfs_check_files.proofs.SearchLemmas.{copied-is}
+use Rattle.ntfs_check_records.proofs.SearchLemmas.{copied-is}
 use Rattle.ntfs_check_files.proofs.collect.take_records.Goals as goal
 use Rattle.ntfs_survey.specs.Surveying.{record_at}
 use Rattle.ntfs_volume.specs.Located.{located_slot}

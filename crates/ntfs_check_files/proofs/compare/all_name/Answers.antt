@@ -1,8 +1,10 @@
 use Rattle.std.proofs.Common.{◌∷◌, ◌∙◌, ap, sym}
+use Rattle.ntfs_check_records.proofs.EntryLemmas.{good-end, good-entry, good-fault}
+use Rattle.ntfs_check_records.specs.Entries.{good_entries}
 use Rattle.ntfs_attrlist.specs.Views.{shown_entry, shown_item}
-use Rattle.ntfs_check_files.proofs.CompareLemmas.{good-end, good-entry, good-fault, names-all, names-more, names-none}
+use Rattle.ntfs_check_files.proofs.CompareLemmas.{names-all, names-more, names-none}
 use Rattle.ntfs_check_files.proofs.compare.all_name.Goals as goal
-use Rattle.ntfs_check_files.specs.Members.{all_name, good_entries}
+use Rattle.ntfs_check_files.specs.Members.{all_name}
 
 pub returns-then-not-names_any : goal.returns-then-not-names_any
 returns-then-not-names_any c =

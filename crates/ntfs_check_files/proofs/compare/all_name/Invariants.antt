@@ -1,6 +1,7 @@
 use Rattle.std.proofs.Common.{◌≡◌}
+use Rattle.ntfs_check_records.specs.Entries.{good_entries}
 use Rattle.ntfs_attrlist.specs.Reading.{list_items}
-use Rattle.ntfs_check_files.specs.Members.{all_name, good_entries}
+use Rattle.ntfs_check_files.specs.Members.{all_name}
 use Rattle.ntfs_check_files.proofs.compare.all_name.Given as goal
 
 abbrev pub invariant-entries : goal.invariant-entries

@@ -1,8 +1,10 @@
 use Rattle.std.proofs.Common.{◌+◌, ◌∷◌, ◌∙◌, ap, sym}
+use Rattle.ntfs_check_records.proofs.EntryLemmas.{good-end, good-entry, good-fault}
+use Rattle.ntfs_check_records.specs.Entries.{good_entries}
 use Rattle.ntfs_attrlist.specs.Views.{shown_entry, shown_item}
-use Rattle.ntfs_check_files.proofs.CompareLemmas.{another, first-one, good-end, good-entry, good-fault, no-more, once, twice}
+use Rattle.ntfs_check_files.proofs.CompareLemmas.{another, first-one, no-more, once, twice}
 use Rattle.ntfs_check_files.proofs.compare.is_named_once.Goals as goal
-use Rattle.ntfs_check_files.specs.Members.{good_entries, told_member}
+use Rattle.ntfs_check_files.specs.Members.{told_member}
 use Rattle.ntfs_rules.specs.Files.{count_of, names_member}
 
 pub returns-then-found : goal.returns-then-found

@@ -1,6 +1,7 @@
 use Rattle.std.proofs.Common.{◌≡◌, ◌+◌, if◌then◌else◌}
+use Rattle.ntfs_check_records.specs.Entries.{good_entries}
 use Rattle.ntfs_attrlist.specs.Reading.{list_items}
-use Rattle.ntfs_check_files.specs.Members.{good_entries, told_member}
+use Rattle.ntfs_check_files.specs.Members.{told_member}
 use Rattle.ntfs_check_files.proofs.compare.is_named_once.Given as goal
 use Rattle.ntfs_rules.specs.Files.{count_of, names_member}
 

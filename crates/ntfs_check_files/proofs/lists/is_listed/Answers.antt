@@ -1,9 +1,9 @@
 use Rattle.std.proofs.Common.{◌==◌, ◌∙◌, List, ap, length, sym, ℕ}
 use Rattle.ntfs_base.specs.Bytes.{cluster_at}
-use Rattle.ntfs_check_files.proofs.AnswerLemmas.{answers-by}
+use Rattle.ntfs_check_records.proofs.AnswerLemmas.{answers-by}
 use Rattle.ntfs_check_files.proofs.ListLemmas.{base-matches, none-matches}
 use Rattle.ntfs_check_files.proofs.lists.is_listed.Goals as goal
-use Rattle.ntfs_check_files.specs.Asked.{records_of}
+use Rattle.ntfs_check_records.specs.Reading.{records_of}
 use Rattle.ntfs_check_files.specs.Extending.{extending}
 use Rattle.ntfs_check_files.specs.Members.{matches_listing}
 use Rattle.ntfs_volume.proofs.GatherLemmas.{listing-told}

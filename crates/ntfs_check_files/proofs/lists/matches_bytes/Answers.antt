@@ -2,7 +2,7 @@ use Rattle.std.proofs.Common.{◌∙◌, List, ap, map, sym}
 use Rattle.ntfs_base.specs.Bytes.{cluster_at}
 use Rattle.ntfs_check_files.proofs.ListLemmas.{bytes-bad, bytes-good, whole-list}
 use Rattle.ntfs_check_files.proofs.lists.matches_bytes.Goals as goal
-use Rattle.ntfs_check_files.specs.Asked.{records_of}
+use Rattle.ntfs_check_records.specs.Reading.{records_of}
 use Rattle.ntfs_check_files.specs.Members.{told_member}
 use Rattle.ntfs_check_files.specs.declared.members.Attribute.{Attribute as Kept}
 

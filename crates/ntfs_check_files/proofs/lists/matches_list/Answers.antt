@@ -2,10 +2,10 @@ use Rattle.std.proofs.Common.{◌≡◌, ◌∙◌, ap, sym, subst, ℕ, List, S
 use Rattle.std.specs.Option.{ok_or}
 use Rattle.ntfs_base.specs.Bytes.{cluster_at}
 use Rattle.ntfs_boot.specs.declared.geometry.Geometry.{Geometry}
-use Rattle.ntfs_check_files.proofs.AnswerLemmas.{answers-by}
+use Rattle.ntfs_check_records.proofs.AnswerLemmas.{answers-by}
 use Rattle.ntfs_check_files.proofs.ListLemmas.{unread-matches}
 use Rattle.ntfs_check_files.proofs.lists.matches_list.Goals as goal
-use Rattle.ntfs_check_files.specs.Asked.{records_of}
+use Rattle.ntfs_check_records.specs.Reading.{records_of}
 use Rattle.ntfs_check_files.specs.Members.{matches_listing}
 use Rattle.ntfs_record.specs.Views.{Shown, shown_body}
 use Rattle.ntfs_record.specs.declared.attribute.Body.{Body}

@@ -2,7 +2,7 @@ use Rattle.std.proofs.Common.{map}
 use Rattle.ntfs_base.specs.Bytes.{cluster_at}
 use Rattle.ntfs_check_files.proofs.MemberLemmas.{kept-none, kept-said}
 use Rattle.ntfs_check_files.proofs.members.keep_extension.Goals as goal
-use Rattle.ntfs_check_files.specs.Asked.{records_of}
+use Rattle.ntfs_check_records.specs.Reading.{records_of}
 use Rattle.ntfs_check_files.specs.Members.{told_member}
 use Rattle.ntfs_volume.specs.Located.{slot_at}
 

@@ -2,7 +2,7 @@ use Rattle.std.proofs.Common.{◌≡◌, ◌++◌, drop, map}
 use Rattle.std.specs.Prelude.{IsTrue, vec_len}
 use Rattle.ntfs_base.specs.Bytes.{cluster_at}
 use Rattle.ntfs_base.specs.Causes.{HaveNotFallen}
-use Rattle.ntfs_check_files.specs.Asked.{records_of}
+use Rattle.ntfs_check_records.specs.Reading.{records_of}
 use Rattle.ntfs_check_files.specs.Members.{members_in, told_member}
 use Rattle.ntfs_check_files.proofs.members.keep_extensions.Given as goal
 

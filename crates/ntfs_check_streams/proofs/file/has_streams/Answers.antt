@@ -5,7 +5,7 @@ use Rattle.std.specs.List.{list_all}
 use Rattle.ntfs_check_streams.proofs.FileLemmas.{base-answer, own-answer, list-answer}
 use Rattle.ntfs_check_streams.proofs.WalkLemmas.{given-as}
 use Rattle.ntfs_check_streams.proofs.file.has_streams.Goals as goal
-use Rattle.ntfs_check_streams.specs.Asked.{records_of}
+use Rattle.ntfs_check_records.specs.Reading.{records_of}
 use Rattle.ntfs_check_streams.specs.Said.{are_own, are_streams, good_listed, shown_in}
 use Rattle.ntfs_volume.proofs.GatherLemmas.{listing-told}
 use Rattle.ntfs_volume.specs.Gathering.{file_lists}

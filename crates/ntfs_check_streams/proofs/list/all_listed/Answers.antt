@@ -1,4 +1,5 @@
 use Rattle.std.proofs.Common.{◌≡◌, ◌∙◌, Some, sym}
+use Rattle.ntfs_check_records.specs.Entries.{good_entries}
 use Rattle.std.specs.List.{list_all}
 use Rattle.ntfs_attrlist.specs.Entry.{Listed}
 use Rattle.ntfs_attrlist.specs.Reading.{list_items}
@@ -8,8 +9,8 @@ use Rattle.std.specs.Prelude.{IfOk}
 use Rattle.ntfs_check_streams.proofs.NamedLemmas.{items-bad, items-good}
 use Rattle.ntfs_check_streams.proofs.WalkLemmas.{first-fails, given-as, second-of}
 use Rattle.ntfs_check_streams.proofs.list.all_listed.Goals as goal
-use Rattle.ntfs_check_streams.specs.Asked.{records_of}
-use Rattle.ntfs_check_streams.specs.Said.{are_listed, good_entries, shown_in}
+use Rattle.ntfs_check_records.specs.Reading.{records_of}
+use Rattle.ntfs_check_streams.specs.Said.{is_listed_stream, shown_in}
 use Rattle.ntfs_record.specs.Views.{Shown}
 use Rattle.ntfs_volume.specs.Views.{told_view}
 
@@ -26,8 +27,8 @@ returns-then-not-branch-clause-found g c told =
     let slots = records_of o (cluster_at (g.G.Image.seen c.args.image.now).content o.geometry.cluster) in
     let entries = good_entries (list_items c.args.list.now) in
     let lead = Some (told_view c.args.lead.now) in
-    first-fails (list_all (λ (s : Shown). are_listed o.geometry.cluster b.number b.sequence slots entries lead s.kind s.name) (shown_in c.args.view.now))
-    (list_all (λ (entry : Listed). are_listed o.geometry.cluster b.number b.sequence slots entries lead entry.kind entry.name) entries)
+    first-fails (list_all (λ (s : Shown). is_listed_stream o.geometry.cluster b.number b.sequence slots entries lead s.kind s.name) (shown_in c.args.view.now))
+    (list_all (λ (entry : Listed). is_listed_stream o.geometry.cluster b.number b.sequence slots entries lead entry.kind entry.name) entries)
     (sym (c.in_ok-own_listed.ensures.found told) ∙ c.if-not-branch.true)
     ∙ sym (items-good o.geometry.cluster b.number b.sequence slots lead (shown_in c.args.view.now) c.args.list.now (sym c.are_entries.ensures ∙ c.if-not-are_entries.false))
 
@@ -39,9 +40,9 @@ returns-clause-found g c told =
     let entries = good_entries (list_items c.args.list.now) in
     let lead = Some (told_view c.args.lead.now) in
     given-as c.entries_listed.result _ _
-    (second-of (list_all (λ (s : Shown). are_listed o.geometry.cluster b.number b.sequence slots entries lead s.kind s.name) (shown_in c.args.view.now))
-    (list_all (λ (entry : Listed). are_listed o.geometry.cluster b.number b.sequence slots entries lead entry.kind entry.name) entries)
+    (second-of (list_all (λ (s : Shown). is_listed_stream o.geometry.cluster b.number b.sequence slots entries lead s.kind s.name) (shown_in c.args.view.now))
+    (list_all (λ (entry : Listed). is_listed_stream o.geometry.cluster b.number b.sequence slots entries lead entry.kind entry.name) entries)
     (sym (c.in_ok-own_listed.ensures.found told) ∙ c.if-not-branch.false)
     ∙ sym (items-good o.geometry.cluster b.number b.sequence slots lead (shown_in c.args.view.now) c.args.list.now (sym c.are_entries.ensures ∙ c.if-not-are_entries.false)))
-    (told_still g.G.Image _ _ (λ content. IfOk c.entries_listed.result (λ is. is ≡ list_all (λ (entry : Listed). are_listed o.geometry.cluster b.number b.sequence (records_of o (cluster_at content o.geometry.cluster)) entries lead entry.kind entry.name) entries))
+    (told_still g.G.Image _ _ (λ content. IfOk c.entries_listed.result (λ is. is ≡ list_all (λ (entry : Listed). is_listed_stream o.geometry.cluster b.number b.sequence (records_of o (cluster_at content o.geometry.cluster)) entries lead entry.kind entry.name) entries))
     c.in_ok-own_listed.ensures.reads.seen c.entries_listed.ensures.found told)

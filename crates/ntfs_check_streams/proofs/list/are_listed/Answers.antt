@@ -1,13 +1,13 @@
 use Rattle.std.proofs.Common.{◌∙◌, ap, Some}
+use Rattle.ntfs_check_records.specs.Entries.{good_entries}
 use Rattle.std.specs.Prelude.{filter}
 use Rattle.ntfs_attrlist.specs.Reading.{list_items}
 use Rattle.ntfs_base.specs.Bytes.{cluster_at}
 use Rattle.ntfs_check_streams.proofs.NamedLemmas.{listed-are}
 use Rattle.ntfs_check_streams.proofs.WalkLemmas.{given-as}
 use Rattle.ntfs_check_streams.proofs.list.are_listed.Goals as goal
-use Rattle.ntfs_check_streams.specs.Asked.{records_of}
+use Rattle.ntfs_check_records.specs.Reading.{records_of}
 use Rattle.ntfs_check_streams.specs.Join.{are_joined}
-use Rattle.ntfs_check_streams.specs.Said.{good_entries}
 use Rattle.ntfs_check_streams.specs.declared.join.Joined.{Joined}
 use Rattle.ntfs_volume.specs.Gather.{all_found, lists}
 use Rattle.ntfs_volume.specs.Views.{told_view}

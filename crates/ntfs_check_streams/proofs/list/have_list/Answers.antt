@@ -6,7 +6,7 @@ use Rattle.ntfs_base.specs.Bytes.{cluster_at}
 use Rattle.ntfs_boot.specs.declared.geometry.Geometry.{Geometry}
 use Rattle.ntfs_check_streams.proofs.WalkLemmas.{given-as}
 use Rattle.ntfs_check_streams.proofs.list.have_list.Goals as goal
-use Rattle.ntfs_check_streams.specs.Asked.{records_of}
+use Rattle.ntfs_check_records.specs.Reading.{records_of}
 use Rattle.ntfs_check_streams.specs.Said.{good_listed, shown_in}
 use Rattle.ntfs_record.specs.Views.{Shown, shown_body}
 use Rattle.ntfs_record.specs.declared.attribute.Body.{Body}

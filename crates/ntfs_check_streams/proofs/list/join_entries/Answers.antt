@@ -6,7 +6,7 @@ use Rattle.ntfs_base.specs.Bytes.{cluster_at}
 use Rattle.ntfs_boot.specs.declared.geometry.Geometry.{Geometry}
 use Rattle.ntfs_check_streams.proofs.NamedLemmas.{items-are, items-end, items-fault, items-given, items-missing, items-other, items_joined}
 use Rattle.ntfs_check_streams.proofs.list.join_entries.Goals as goal
-use Rattle.ntfs_check_streams.specs.Asked.{records_of}
+use Rattle.ntfs_check_records.specs.Reading.{records_of}
 use Rattle.ntfs_check_streams.specs.Join.{is_stream, span_found}
 use Rattle.ntfs_check_streams.specs.declared.join.Joined.{Joined}
 use Rattle.ntfs_volume.specs.Gather.{found_in}

@@ -5,7 +5,7 @@ use Rattle.ntfs_base.specs.Bytes.{cluster_at}
 use Rattle.ntfs_base.specs.Causes.{HaveNotFallen}
 use Rattle.ntfs_check_streams.proofs.NamedLemmas.{items_joined}
 use Rattle.ntfs_check_streams.proofs.list.join_entries.Given as goal
-use Rattle.ntfs_check_streams.specs.Asked.{records_of}
+use Rattle.ntfs_check_records.specs.Reading.{records_of}
 
 abbrev pub invariant-entries : goal.invariant-entries
 invariant-entries g l = record {

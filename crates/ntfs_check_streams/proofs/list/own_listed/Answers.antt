@@ -1,12 +1,13 @@
 use Rattle.std.proofs.Common.{◌≡◌, ◌∙◌, ap, List, map, refl, sym, arith, ℕ, Some}
+use Rattle.ntfs_check_records.specs.Entries.{good_entries}
 use Rattle.std.specs.List.{list_all}
 use Rattle.ntfs_attrlist.specs.Reading.{list_items}
 use Rattle.ntfs_base.proofs.FramesLemmas.{told_still}
 use Rattle.ntfs_base.specs.Bytes.{cluster_at}
 use Rattle.ntfs_check_streams.proofs.WalkLemmas.{all-end, all-failed, all-passed}
 use Rattle.ntfs_check_streams.proofs.list.own_listed.Goals as goal
-use Rattle.ntfs_check_streams.specs.Asked.{records_of}
-use Rattle.ntfs_check_streams.specs.Said.{are_listed, good_entries}
+use Rattle.ntfs_check_records.specs.Reading.{records_of}
+use Rattle.ntfs_check_streams.specs.Said.{is_listed_stream}
 use Rattle.ntfs_record.specs.Views.{Placed, Shown, shown_placed, shown_view}
 use Rattle.ntfs_volume.specs.Views.{told_view}
 
@@ -18,7 +19,7 @@ attributes-init g c = record {
   counts = record { reads = omega arith; writes = omega arith };
   same = λ told.
       let o = c.args.table.now in
-      ap (λ (items : List Placed). list_all (λ (s : Shown). are_listed o.geometry.cluster c.args.base.number c.args.base.sequence (records_of o (cluster_at (g.G.Image.seen c.args.image.now).content o.geometry.cluster)) (good_entries (list_items c.args.list.now)) (Some (told_view c.args.lead.now)) s.kind s.name) (map shown_placed items))
+      ap (λ (items : List Placed). list_all (λ (s : Shown). is_listed_stream o.geometry.cluster c.args.base.number c.args.base.sequence (records_of o (cluster_at (g.G.Image.seen c.args.image.now).content o.geometry.cluster)) (good_entries (list_items c.args.list.now)) (Some (told_view c.args.lead.now)) s.kind s.name) (map shown_placed items))
       (c.into_iter-attribute-iterator.ensures.into_iter_gives ∙ c.attributes-attribute-items.ensures.placed);
 }
 
@@ -26,7 +27,7 @@ pub returns-then-not-holds-clause-found : goal.returns-then-not-holds-clause-fou
 returns-then-not-holds-clause-found g c told =
     let o = c.args.table.now in
     let b = c.args.base in
-    let test = λ (content : List ℕ) (kind : ℕ) (name : List ℕ). are_listed o.geometry.cluster b.number b.sequence (records_of o (cluster_at content o.geometry.cluster)) (good_entries (list_items c.args.list.now)) (Some (told_view c.args.lead.now)) kind name in
+    let test = λ (content : List ℕ) (kind : ℕ) (name : List ℕ). is_listed_stream o.geometry.cluster b.number b.sequence (records_of o (cluster_at content o.geometry.cluster)) (good_entries (list_items c.args.list.now)) (Some (told_view c.args.lead.now)) kind name in
     let a = shown_view c.in-Some.attribute in
     let holds = told_still g.G.Image _ _ (λ content. c.in_ok-holds.holds ≡ test content a.kind a.name) c.attributes.invariant.seen c.in_ok-holds.ensures.found told in
     all-failed (λ (s : Shown). test (g.G.Image.seen c.args.image.now).content s.kind s.name) _ _ (c.attributes.invariant.same told) a (map shown_placed c.next.new.self) c.in-Some.ensures.steps
@@ -36,7 +37,7 @@ pub attributes-preserved : goal.attributes-preserved
 attributes-preserved g c =
     let o = c.args.table.now in
     let b = c.args.base in
-    let test = λ (content : List ℕ) (kind : ℕ) (name : List ℕ). are_listed o.geometry.cluster b.number b.sequence (records_of o (cluster_at content o.geometry.cluster)) (good_entries (list_items c.args.list.now)) (Some (told_view c.args.lead.now)) kind name in
+    let test = λ (content : List ℕ) (kind : ℕ) (name : List ℕ). is_listed_stream o.geometry.cluster b.number b.sequence (records_of o (cluster_at content o.geometry.cluster)) (good_entries (list_items c.args.list.now)) (Some (told_view c.args.lead.now)) kind name in
     let a = shown_view c.in-Some.attribute in
     let done = c.in_ok-holds.ensures in
     record {
@@ -53,5 +54,5 @@ attributes-preserved g c =
 pub returns-clause-found : goal.returns-clause-found
 returns-clause-found g c told =
     let o = c.args.table.now in
-    all-end (λ (s : Shown). are_listed o.geometry.cluster c.args.base.number c.args.base.sequence (records_of o (cluster_at (g.G.Image.seen c.args.image.now).content o.geometry.cluster)) (good_entries (list_items c.args.list.now)) (Some (told_view c.args.lead.now)) s.kind s.name) _ _
+    all-end (λ (s : Shown). is_listed_stream o.geometry.cluster c.args.base.number c.args.base.sequence (records_of o (cluster_at (g.G.Image.seen c.args.image.now).content o.geometry.cluster)) (good_entries (list_items c.args.list.now)) (Some (told_view c.args.lead.now)) s.kind s.name) _ _
     (c.attributes.invariant.same told) c.in-None.ensures.steps.0

@@ -2,7 +2,7 @@ use Rattle.ntfs_attrlist.specs.Views.{shown_entry}
 use Rattle.ntfs_base.specs.Bytes.{cluster_at}
 use Rattle.ntfs_check_streams.proofs.NamedLemmas.{span-read, span-unread}
 use Rattle.ntfs_check_streams.proofs.named.read_span.Goals as goal
-use Rattle.ntfs_check_streams.specs.Asked.{records_of}
+use Rattle.ntfs_check_records.specs.Reading.{records_of}
 
 pub returns-in-Ok-None-clause-found : goal.returns-in-Ok-None-clause-found
 returns-in-Ok-None-clause-found g c told =

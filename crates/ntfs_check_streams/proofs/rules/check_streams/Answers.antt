@@ -7,4 +7,4 @@ pub returns-clause-gives : goal.returns-clause-gives
 returns-clause-gives g c told whole cells listed =
     let o = c.args.table.now in
     let f = cluster_at (g.G.Image.seen c.args.image.now).content o.geometry.cluster in
-    streams-given o f c.judge_streams.result (c.judge_streams.ensures.gives told (presumed (volume_data o f) whole cells listed))
+    streams-given o f c.ask_all.result (c.ask_all.ensures.gives told (presumed (volume_data o f) whole cells listed))

@@ -4,7 +4,7 @@ use Rattle.std.proofs.lemmas.Result.{err_from_is_err_and}
 use Rattle.ntfs_base.specs.Frames.{IsSettled}
 use Rattle.ntfs_clone.specs.Commands.{covered, right_commands}
 use Rattle.ntfs_clone.specs.Fault.{clone_origin}
-use Rattle.ntfs_clone.specs.Reading.{IsAllowed, IsBehind, found_in, found_length, waiting}
+use Rattle.ntfs_clone.specs.Reading.{IsAllowed, IsBehind, command_found, found_length, waiting}
 use Rattle.ntfs_clone.specs.Restored.{laid_out}
 use Rattle.ntfs_clone.specs.Taking.{to_come}
 use Rattle.ntfs_clone.specs.Writing.{IsHeld, Reaches}
@@ -86,7 +86,7 @@ commands-preserved g c =
           let read = (before.put told).reading.read in
           record {
             reading = record {
-              read = read ++ found_in h.cluster here command ∷ [];
+              read = read ++ command_found h.cluster here command ∷ [];
               behind = behind-next h (to_come (g.I.Source.seen c.args.source.now)) read c.commands.progress c.behind-progress.result _
                   here (to_come (g.I.Source.seen c.next.new.source)) (waiting c.pass.new.self) c.in_ok-command.field-0 command
                   (before.put told).reading.behind (found.unread now) (found.exact now) c.in-Some.is
@@ -97,7 +97,7 @@ commands-preserved g c =
             };
             held = λ told_target.
                 let tells = sym done.same.same.told ∙ told_target in
-                subst (λ (bytes : List ℕ). IsHeld h (read ++ found_in h.cluster bytes command ∷ []) c.put.new.row (g.F.Image.seen c.put.new.target).content) c.waiting.ensures
+                subst (λ (bytes : List ℕ). IsHeld h (read ++ command_found h.cluster bytes command ∷ []) c.put.new.row (g.F.Image.seen c.put.new.target).content) c.waiting.ensures
                 (done.held read tells ((before.put told).held tells));
           };
     }

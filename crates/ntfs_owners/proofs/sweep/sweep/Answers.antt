@@ -5,7 +5,7 @@ use Rattle.std.proofs.lemmas.List.Elements.{All-nil, All-same}
 use Rattle.std.proofs.lemmas.List.Kept.{IsNonDecreasingBy-filter}
 use Rattle.std.proofs.lemmas.List.Sorted.{IsNonDecreasingBy-short}
 use Rattle.std.proofs.lemmas.Result.{err_from_is_err_and}
-use Rattle.ntfs_owners.specs.Sweep.{HasCluster, end_of, first_of, next_cluster, rows_cluster, span_of, swept_lines}
+use Rattle.ntfs_owners.specs.Sweep.{HasCluster, span_end, span_first, next_cluster, rows_cluster, row_span, swept_lines}
 use Rattle.ntfs_print.proofs.PendingLemmas.{way-cut, way-end, way-next, way-start, way-stop}
 use Rattle.ntfs_owners.proofs.SweepLemmas.{swept-next}
 use Rattle.ntfs_owners.proofs.TurnLemmas.{active-have, active-lines, due-none, end-lines, ended-go, next-is, next-lines, swept-by}
@@ -13,12 +13,12 @@ use Rattle.ntfs_owners.proofs.sweep.sweep.Goals as goal
 
 pub clusters-init : goal.clusters-init
 clusters-init g c =
-    let spans = map span_of c.args.rows.now in
+    let spans = map row_span c.args.rows.now in
     let none = c.new-active.ensures.items in
     record {
-      swept = swept-by (first_of spans) (end_of spans) (length spans) c.args.from [] c.new-active.result.items c.args.starts.now c.args.starts.now (sym none) refl c.requires.swept;
+      swept = swept-by (span_first spans) (span_end spans) (length spans) c.args.from [] c.new-active.result.items c.args.starts.now c.args.starts.now (sym none) refl c.requires.swept;
       order = subst IsNonDecreasing (sym none) (IsNonDecreasingBy-short (λ x. x) [] (omega arith));
-      going = All-same (λ i. c.args.from < end_of spans i) c.new-active.result.items [] none (All-nil (λ i. c.args.from < end_of spans i));
+      going = All-same (λ i. c.args.from < span_end spans i) c.new-active.result.items [] none (All-nil (λ i. c.args.from < span_end spans i));
       from = omega arith;
       way = way-start (swept_lines spans c.args.from (c.args.end - c.args.from)) c.args.pending.now (g.K.Sink.seen c.args.out.now);
       puts = record { failures = omega arith; wants = omega arith };
@@ -26,16 +26,16 @@ clusters-init g c =
 
 pub returns-in_err-start_due-clause-pushes : goal.returns-in_err-start_due-clause-pushes
 returns-in_err-start_due-clause-pushes g c =
-    let spans = map span_of c.args.rows.now in
+    let spans = map row_span c.args.rows.now in
     let p = err_from_is_err_and c.from_residual.result c.from_residual.ensures.1 in
     rw p.1 (way-stop (swept_lines spans c.args.from (c.args.end - c.args.from)) (swept_lines spans c.clusters.at (c.args.end - c.clusters.at)) c.args.pending.now c.clusters.pending c.clusters.pending
     (g.K.Sink.seen c.args.out.now) (g.K.Sink.seen c.clusters.out) _ c.clusters.invariant.way)
 
 pub print_rows-requires : goal.print_rows-requires
 print_rows-requires g c =
-    let spans = map span_of c.args.rows.now in
-    let first = first_of spans in
-    let ends = end_of spans in
+    let spans = map row_span c.args.rows.now in
+    let first = span_first spans in
+    let ends = span_end spans in
     let m = length spans in
     let at = c.clusters.at in
     let end = c.args.end in
@@ -52,9 +52,9 @@ print_rows-requires g c =
 
 pub returns-in_err-print_rows-clause-pushes : goal.returns-in_err-print_rows-clause-pushes
 returns-in_err-print_rows-clause-pushes g c =
-    let spans = map span_of c.args.rows.now in
-    let first = first_of spans in
-    let ends = end_of spans in
+    let spans = map row_span c.args.rows.now in
+    let first = span_first spans in
+    let ends = span_end spans in
     let m = length spans in
     let at = c.clusters.at in
     let end = c.args.end in
@@ -76,9 +76,9 @@ returns-in_err-print_rows-clause-pushes g c =
 
 pub overflow_add-at : goal.overflow_add-at
 overflow_add-at g c =
-    let spans = map span_of c.args.rows.now in
-    let first = first_of spans in
-    let ends = end_of spans in
+    let spans = map row_span c.args.rows.now in
+    let first = span_first spans in
+    let ends = span_end spans in
     let m = length spans in
     let at = c.clusters.at in
     let end = c.args.end in
@@ -90,9 +90,9 @@ overflow_add-at g c =
 
 pub clusters-smaller : goal.clusters-smaller
 clusters-smaller g c =
-    let spans = map span_of c.args.rows.now in
-    let first = first_of spans in
-    let ends = end_of spans in
+    let spans = map row_span c.args.rows.now in
+    let first = span_first spans in
+    let ends = span_end spans in
     let m = length spans in
     let at = c.clusters.at in
     let end = c.args.end in
@@ -105,9 +105,9 @@ clusters-smaller g c =
 
 pub clusters-preserved : goal.clusters-preserved
 clusters-preserved g c =
-    let spans = map span_of c.args.rows.now in
-    let first = first_of spans in
-    let ends = end_of spans in
+    let spans = map row_span c.args.rows.now in
+    let first = span_first spans in
+    let ends = span_end spans in
     let m = length spans in
     let at = c.clusters.at in
     let end = c.args.end in
@@ -135,7 +135,7 @@ clusters-preserved g c =
 
 pub returns-clause-pushes : goal.returns-clause-pushes
 returns-clause-pushes g c =
-    let spans = map span_of c.args.rows.now in
+    let spans = map row_span c.args.rows.now in
     let at = c.clusters.at in
     let waiting = drop c.clusters.next c.args.starts.now in
     let is = ap (λ rows. next_cluster at rows waiting) (sym c.deref.ensures.value) ∙ sym c.next_cluster.ensures ∙ c.in_default.is in

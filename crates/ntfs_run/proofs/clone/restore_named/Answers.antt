@@ -3,7 +3,7 @@ use Rattle.std.proofs.lemmas.Result.{err_from_is_err_and}
 use Rattle.ntfs_base.specs.FileStream.{source_of}
 use Rattle.ntfs_clone.specs.Taking.{to_come}
 use Rattle.ntfs_run.specs.Clone.{ImageRefuses, IsRestoredFrom, LeavesOutput, RestoreRefuses, restored_image}
-use Rattle.ntfs_run.specs.Outcome.{Ends, KeepsOthers, outcome_or, status_of}
+use Rattle.ntfs_run.specs.Outcome.{Ends, KeepsOtherFiles, outcome_or, status_of}
 use Rattle.ntfs_run.proofs.OutputLemmas.{ends_refused, leaves_map}
 use Rattle.ntfs_run.proofs.RestoreLemmas.{given_bears, given_holds, image_in_named, restore_read, restore_refused, unread_bytes}
 use Rattle.ntfs_run.proofs.ReturnLemmas.{are_free, held_files, held_told, others_at, read_files, read_is_attached, read_makes, shelf_kept}
@@ -103,8 +103,8 @@ returns-clause-others g c told =
     let files = read_files g.S.Shelf g.S.File.Image c.args.shelf.now c.attach_file.new.shelf c.restore_from-result.new.shelf c.release.new.self c.in_ok-file.file c.into_file.result c.args.source.now
     c.in_ok-file.ensures.file c.in_ok-file.ensures.attached bears holds
     (λ told. others_at r.output.now c.args.source.now _ _ c.requires.apart (c.restore_from-result.ensures.others shelf)) c.restore_from-result.ensures.makes.told c.release.ensures.released in
-    subst (λ left. KeepsOthers r.output.now (g.S.Shelf.seen c.args.shelf.now).files left) (sym files)
-    (subst (λ files. KeepsOthers r.output.now files (g.S.Shelf.seen c.restore_from-result.new.shelf).files) held (c.restore_from-result.ensures.others shelf))
+    subst (λ left. KeepsOtherFiles r.output.now (g.S.Shelf.seen c.args.shelf.now).files left) (sym files)
+    (subst (λ files. KeepsOtherFiles r.output.now files (g.S.Shelf.seen c.restore_from-result.new.shelf).files) held (c.restore_from-result.ensures.others shelf))
 
 pub returns-clause-shows : goal.returns-clause-shows
 returns-clause-shows g c =

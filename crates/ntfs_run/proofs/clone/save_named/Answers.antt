@@ -1,7 +1,7 @@
 use Rattle.std.proofs.Common.{IsTrue, Some, ap, sym, subst, ◌∙◌}
 use Rattle.std.proofs.lemmas.Result.{err_from_is_err_and}
 use Rattle.ntfs_run.specs.Clone.{IsSavedFrom, LeavesOutput, SaveRefuses, saved_image}
-use Rattle.ntfs_run.specs.Outcome.{Ends, KeepsOthers, outcome_of, status_of}
+use Rattle.ntfs_run.specs.Outcome.{Ends, KeepsOtherFiles, outcome_of, status_of}
 use Rattle.ntfs_run.proofs.CloneLemmas.{work_refused, work_saved}
 use Rattle.ntfs_run.proofs.OutputLemmas.{ends_refused, leaves_map}
 use Rattle.ntfs_run.proofs.ReturnLemmas.{is_free, held_files, held_told, read_files, read_is_attached, read_makes}
@@ -68,8 +68,8 @@ returns-clause-others g c told =
     let files = read_files g.S.Shelf g.S.File.Image c.args.shelf.now c.attach_file.new.shelf c.save_image-result.new.shelf c.release.new.self c.in_ok-file.file c.save_image-result.new.image c.args.source.now
     c.in_ok-file.ensures.file c.in_ok-file.ensures.attached (ap (λ i. i.name) c.save_image-result.ensures.seen) (ap (λ i. i.content) c.save_image-result.ensures.seen)
     (λ told. c.save_image-result.ensures.others shelf c.args.source.now c.requires.apart) c.save_image-result.ensures.makes.told c.release.ensures.released in
-    subst (λ left. KeepsOthers (Some c.args.output.now) (g.S.Shelf.seen c.args.shelf.now).files left) (sym files)
-    (subst (λ files. KeepsOthers (Some c.args.output.now) files (g.S.Shelf.seen c.save_image-result.new.shelf).files) held (c.save_image-result.ensures.others shelf))
+    subst (λ left. KeepsOtherFiles (Some c.args.output.now) (g.S.Shelf.seen c.args.shelf.now).files left) (sym files)
+    (subst (λ files. KeepsOtherFiles (Some c.args.output.now) files (g.S.Shelf.seen c.save_image-result.new.shelf).files) held (c.save_image-result.ensures.others shelf))
 
 pub returns-clause-makes : goal.returns-clause-makes
 returns-clause-makes g c =

@@ -1,6 +1,6 @@
-use Rattle.std.proofs.Common.{◌≡◌, Ok, refl, rules, sym}
+use Rattle.std.proofs.Common.{◌≡◌, Ok, Some, refl, rules, sym}
 use Rattle.ntfs_words.specs.declared.request.Request.TheVariants as request
-use Rattle.ntfs_run.proofs.OutputLemmas.{made_others}
+use Rattle.ntfs_run.proofs.OutputLemmas.{files_kept, made_others}
 use Rattle.ntfs_run.proofs.RangeLemmas.{made_shape}
 use Rattle.ntfs_run.proofs.ToolLemmas.{does_refused}
 use Rattle.ntfs_run.proofs.command.answer.Goals as goal
@@ -16,4 +16,5 @@ make_file-requires-clause-shape g c =
 pub returns-in-Ok-Make-clause-others : goal.returns-in-Ok-Make-clause-others
 returns-in-Ok-Make-clause-others g c told =
     let is : c.args.request.now ≡ Ok (request.Make c.in-Ok-Make.file c.in-Ok-Make.seed c.in-Ok-Make.clusters c.in-Ok-Make.cluster) = search rules in
-    rw (is, sym c.as_str-in-Ok-Make.ensures) (made_others c.as_str-in-Ok-Make.result.now c.in-Ok-Make.seed c.in-Ok-Make.clusters c.in-Ok-Make.cluster _ _ (c.make_file.ensures.left told))
+    rw (is, sym c.as_str-in-Ok-Make.ensures) (files_kept (Some c.as_str-in-Ok-Make.result.now) _ _
+    (made_others c.as_str-in-Ok-Make.result.now c.in-Ok-Make.seed c.in-Ok-Make.clusters c.in-Ok-Make.cluster _ _ (c.make_file.ensures.left told)))

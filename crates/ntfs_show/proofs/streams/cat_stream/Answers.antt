@@ -2,7 +2,7 @@ use Rattle.std.proofs.Common.{sym, ap, ◌∙◌}
 use Rattle.std.proofs.lemmas.Result.{err_from_is_err_and}
 use Rattle.ntfs_base.specs.Frames.{Puts}
 use Rattle.ntfs_base.proofs.FramesLemmas.{puts_none, told_still}
-use Rattle.ntfs_show.specs.Cat.{shown_bytes}
+use Rattle.ntfs_show.specs.Cat.{printed_bytes}
 use Rattle.ntfs_print.specs.Fault.{show_origin}
 use Rattle.ntfs_print.proofs.AnswerLemmas.{puts_by}
 use Rattle.ntfs_show.proofs.CatLemmas.{outcome-gathered, outcome-refused}
@@ -19,7 +19,7 @@ returns-clause-told g c told =
     let geometry = c.geometry.result.now in
     let found = c.in_ok-stream.stream in
     let content = (g.G.Image.seen c.args.image.now).content in
-    let puts = told_still g.G.Image _ _ (λ content. Puts show_origin (shown_bytes geometry content found.stream) (g.K.Sink.seen c.args.out.now) c.put_gathered.result (g.K.Sink.seen c.put_gathered.new.out))
+    let puts = told_still g.G.Image _ _ (λ content. Puts show_origin (printed_bytes geometry content found.stream) (g.K.Sink.seen c.args.out.now) c.put_gathered.result (g.K.Sink.seen c.put_gathered.new.out))
     c.in_ok-stream.ensures.reads.seen c.put_gathered.ensures.told in
     puts_by show_origin _ _ _ _ _ (outcome-gathered c.args.table.now content c.args.number c.args.kind c.args.name.now found (c.in_ok-stream.ensures.gives told)
-    ∙ ap (λ g. shown_bytes g content found.stream) (sym c.geometry.ensures.kept)) (puts told)
+    ∙ ap (λ g. printed_bytes g content found.stream) (sym c.geometry.ensures.kept)) (puts told)

@@ -1,0 +1,4 @@
+pub mod AnswerLemmas
+pub mod RecordLemmas
+pub mod SearchLemmas
+pub mod EntryLemmas
