@@ -15,7 +15,7 @@ if [ ! -x "$program" ]; then
     exit 1
 fi
 mkdir -p -- "$1"
-for tool in ntfsinfo ntfsls ntfscat ntfscluster ntfsclone ntfsmake; do
+for tool in ntfsinfo ntfsls ntfscat ntfscluster ntfsclone ntfsmake ntfstrial; do
     link=$1/$tool
     if [ -e "$link" ] && [ ! -L "$link" ]; then
         echo "$0: file exists: $link" >&2

@@ -20,7 +20,7 @@ sys.path.insert(0, str(TOP / "bench"))
 from measure import built_program  # noqa: E402
 
 IMAGE = TOP / "crates" / "ntfsprogs" / "data" / "tiny.img"
-TOOLS = ("ntfsinfo", "ntfsls", "ntfscat", "ntfscluster", "ntfsclone", "ntfsmake")
+TOOLS = ("ntfsinfo", "ntfsls", "ntfscat", "ntfscluster", "ntfsclone", "ntfsmake", "ntfstrial")
 LINES = ([], ["-m", str(IMAGE)], ["-i", "0", str(IMAGE)], ["-m"], ["-x", "-y"], ["missing"], ["-i", "missing"],
          ["ntfsinfo", "-m", str(IMAGE)])
 

@@ -20,6 +20,7 @@ import shutil
 import signal
 import socket
 import stat
+import struct
 import subprocess
 import sys
 import tempfile
@@ -184,7 +185,18 @@ def words(trials):
     for line, status, message in (
         ([], 1, "ntfsprogs: usage: tool"),
         ([""], 1, "ntfsprogs: usage: tool"),
-        (["ntfsclone", "-s", "plain"], 1, "ntfsprogs: usage: tool"),
+        (["ntfsresize", "-i", "plain"], 1, "ntfsprogs: usage: tool"),
+        (["ntfsclone"], 1, "ntfsclone: usage: combination"),
+        (["ntfsclone", "-s", "-x", "plain"], 1, "ntfsclone: usage: line"),
+        (["ntfsclone", "-s", "-r", "-o", "new", "plain"], 1, "ntfsclone: usage: combination"),
+        (["ntfsclone", "-s", "-o", "plain", "plain"], 1, "ntfsclone: usage: same name"),
+        (["ntfsclone", "-s", "missing"], 2, "ntfsclone: no such file: missing"),
+        (["ntfsclone", "-s", "-o", "plain", "v0"], 2, "ntfsclone: file exists: plain"),
+        (["ntfsclone", "-r", "-o", "new", "v0"], 9, "ntfsclone: bad clone image at byte 0"),
+        (["ntfstrial", "0"], 1, "ntfstrial: usage: line"),
+        (["ntfstrial", "x", "new"], 1, "ntfstrial: usage: number"),
+        (["ntfstrial", "0", "plain"], 2, "ntfstrial: file exists: plain"),
+        (["ntfstrial", "0", "missing/new"], 11, "ntfstrial: write fault"),
         (["ntfsls", "-f", "plain"], 1, f"ntfsls: {usage}"),
         (["ntfsls", "--help"], 1, f"ntfsls: {usage}"),
         (["ntfsinfo"], 1, f"ntfsinfo: {usage}"),
@@ -302,19 +314,162 @@ def made(trials):
 def makes(trials, what, wanted, **how):
     """Has ntfsmake end with what is wanted, and leave the volume, or else one with zeros in places, or nothing."""
     whole = trials.whole = getattr(trials, "whole", None) or reference(0, 1024, 4096)
+    return fills(trials, what, wanted, ["ntfsmake", "new", *MADE], whole, **how)
+
+
+def fills(trials, what, wanted, line, whole, is_appended=False, **how):
+    """Has a line end with what is wanted, and leave these bytes in the new file, or else a front of them, or nothing, or
+    them with zeros in places where the file isn't appended to."""
     path = trials.images / "new"
     path.unlink(missing_ok=True)
-    done = trials.run(["ntfsmake", "new", *MADE], **how)
-    trials.check(what, done in wanted, f"ntfsmake ended with {done}")
+    done = trials.run(line, **how)
+    trials.check(what, done in wanted, f"{line} ended with {done!r:.300}")
     left = path.read_bytes() if path.exists() else None
     if done.status == 0:
-        trials.check(what, left == whole, "other bytes than the volume's")
+        trials.check(what, left == whole, f"{line} left other bytes")
+    elif left and is_appended:
+        trials.check(what, whole.startswith(left), f"{line} left {len(left)} bytes that are no front")
     elif left:
         is_right = len(left) == len(whole) and all(a in (0, b) for a, b in zip(left, whole) if a != b)
-        trials.check(what, is_right, f"left {len(left)} bytes that are neither zero nor the volume's")
+        trials.check(what, is_right, f"{line} left {len(left)} bytes that are neither zero nor the right ones")
     path.unlink(missing_ok=True)
     trials.unchanged(what)
     return done
+
+
+def cloned(volume):
+    """The clone image of the made volume, whose $Bitmap begins at cluster 31, and what is restored from it."""
+    owned = [volume[31 * 4096 + number // 8] >> number % 8 & 1 for number in range(1024)]
+    clone, restored, gap = [b"\0ntfsclone-image\x0A\0" + struct.pack("<IQQQI6x", 4096, 4_194_816, 1024, sum(owned), 56)], [], 0
+    for number, is_owned in enumerate([*owned, True]):
+        cluster = (volume[:4_194_816] + bytes(4096))[number * 4096:][:4096] if is_owned else bytes(4096)
+        restored.append(cluster)
+        if is_owned and gap:
+            clone.append(b"\0" + struct.pack("<Q", gap))
+        if is_owned:
+            clone.append(b"\1" + cluster)
+        gap = 0 if is_owned else gap + 1
+    return b"".join(clone), b"".join(restored)[:4_194_816]
+
+
+SAVE = ["ntfsclone", "-s", "-o", "new", "v0"]
+PUT = ["ntfsclone", "-s", "v0"]
+COPY = ["ntfsclone", "-o", "new", "v0"]
+RESTORE = ["ntfsclone", "-r", "-o", "new", "clone"]
+TAKE = ["ntfsclone", "-r", "-o", "new"]
+
+
+def jobs_of(clone, restored):
+    """The lines of ntfsclone that make a file, what is in it, and whether it is appended to."""
+    return (SAVE, clone, True), (COPY, restored, False), (RESTORE, restored, False)
+
+
+def clones(trials):
+    """ntfsclone and ntfstrial over streams, files and limits like those of the other tools."""
+    images = trials.images
+    clone, restored = cloned((images / "v0").read_bytes())
+    trials.check("clone", len(clone) == 491_966, len(clone))
+    (images / "clone").write_bytes(clone)
+    trials.keep()
+    jobs = jobs_of(clone, restored)
+    done, told = Done(0, b"", b""), Done(11, b"", fault(SAVE, "write"))
+    for bits in range(8):
+        gone = [number for number in range(3) if bits >> number & 1]
+        for line, whole, is_appended in jobs:
+            fills(trials, f"closed {gone}", [done], line, whole, is_appended, closed=gone)
+        wanted = Done(11, b"", b"" if 2 in gone else told.err) if 1 in gone else Done(0, clone, b"")
+        trials.check(f"closed {gone}", trials.run(PUT, closed=gone) == wanted, wanted.status)
+        wanted = Done(10, b"", b"" if 2 in gone else fault(TAKE, "read"))
+        if 0 in gone:
+            fills(trials, f"closed {gone}", [wanted], TAKE, restored, closed=gone)
+    for most in (0, 1, 56, 4096, len(clone) - 1, len(clone), len(restored) - 1, len(restored)):
+        for line, whole, is_appended in jobs:
+            wanted = done if most >= len(whole) else told
+            limit = [(resource.RLIMIT_FSIZE, most)]
+            fills(trials, f"files of {most} bytes at most", [wanted], line, whole, is_appended, limits=limit)
+    with open("/dev/full", "wb") as full:
+        trials.expect("full output", PUT, 11, err=told.err, stdout=full)
+        for line, whole, is_appended in jobs:
+            fills(trials, "full output", [done], line, whole, is_appended, stdout=full)
+    reader, writer = os.pipe()
+    os.close(reader)
+    trials.expect("no reader", PUT, 11, err=told.err, stdout=writer)
+    os.close(writer)
+    with open(images / "clone", "rb") as file:
+        fills(trials, "input", [done], TAKE, restored, stdin=file)
+    for cut, place in ((0, 0), (55, 50), (1000, 56), (4153, 4153)):
+        for words in (TAKE, ["ntfsclone", "-rn"]):
+            with concurrent.futures.ThreadPoolExecutor() as pool:
+                reader, writer = os.pipe()
+                run = pool.submit(fills, trials, f"input of {cut} bytes",
+                                  [Done(9, b"", f"ntfsclone: bad clone image at byte {place}\n".encode())],
+                                  words, restored, stdin=reader)
+                for start in range(0, cut, 777):
+                    os.write(writer, clone[start:min(start + 777, cut)])
+                os.close(writer)
+                run.result()
+                os.close(reader)
+    odd_files(trials, told)
+    with concurrent.futures.ThreadPoolExecutor(8) as pool:
+        ended = sorted(pool.map(lambda _: trials.run(SAVE), range(8)))
+    present = Done(2, b"", b"ntfsclone: file exists: new\n")
+    trials.check("side by side", ended == [done, *[present] * 7], ended)
+    trials.check("side by side", (images / "new").read_bytes() == clone, "other bytes")
+    (images / "new").unlink()
+    tried(trials, clone, restored)
+
+
+def odd_files(trials, told):
+    """SOURCE and outputs that are no files, or can't be made."""
+    images = trials.images
+    (images / "folder2").mkdir()
+    os.mkfifo(images / "pipe2")
+    trials.keep()
+    for name in ("folder2", "pipe2", "/dev/null", "/dev/zero", "/dev/full", "clone/below"):
+        for line in (["-s", "-o", "new", name], ["-r", "-o", "new", name], ["-r", "-n", name], ["-s", name]):
+            trials.expect(name, ["ntfsclone", *line], 10, err=fault(SAVE, "read"))
+        for line in (["-s", "-O", name, "v0"], ["-O", name, "v0"], ["-r", "-O", name, "clone"]):
+            trials.expect(name, ["ntfsclone", *line], 11, err=told.err)
+        is_there = name != "clone/below"
+        err = f"ntfsclone: file exists: {name}\n".encode() if is_there else told.err
+        for line in (["-s", "-o", name, "v0"], ["-o", name, "v0"], ["-r", "-o", name, "clone"]):
+            trials.expect(name, ["ntfsclone", *line], 2 if is_there else 11, err=err)
+    if os.getuid() == 0:
+        trials.expect("folder of others", SAVE, 11, err=told.err, user=NOBODY)
+        trials.expect("file of others", ["ntfsclone", "-s", "-O", "clone", "v0"], 11, err=told.err, user=NOBODY)
+        trials.expect("only readable", PUT, 0, cloned((images / "v0").read_bytes())[0], user=NOBODY)
+
+
+def tried(trials, clone, restored):
+    """The three files of ntfstrial, whose volume has 16,384 clusters, and what stands where one is there or too large."""
+    images = trials.images
+    names = ("new", "new.clone", "new.back")
+    lines_put = ("made: 16384 clusters, 119 owned\n", "clone: 491966 bytes\n", "restored: 67109376 bytes\n")
+    sizes = (16_385 * 4096, 491_966, 67_109_376)
+    line = ["ntfstrial", "0", "new"]
+
+    def ends(what, done, wanted, there):
+        trials.check(what, done == wanted, f"{done!r:.300}, not {wanted!r:.300}")
+        left = [(images / name).stat().st_size if (images / name).exists() else None for name in names]
+        trials.check(what, left == there, f"left {left}")
+        for name in names:
+            (images / name).unlink(missing_ok=True)
+        trials.unchanged(what)
+
+    for count in range(3):
+        (images / names[count]).touch()
+        err = f"ntfstrial: file exists: {names[count]}\n".encode()
+        there = [*sizes[:count], 0, *[None] * (2 - count)]
+        ends(names[count], trials.run(line), Done(2, "".join(lines_put[:count]).encode(), err), there)
+    ends("whole", trials.run(line), Done(0, "".join(lines_put).encode(), b""), list(sizes))
+    told = Done(11, b"", b"ntfstrial: write fault\n")
+    limit = [(resource.RLIMIT_FSIZE, sizes[0] - 1)]
+    ends("files too large", trials.run(line, limits=limit), told, [0, None, None])
+    with open("/dev/full", "wb") as full:
+        ends("full output", trials.run(line, stdout=full), told, [sizes[0], None, None])
+    ends("closed output", trials.run(line, closed=[1]), told, [sizes[0], None, None])
+
+
 
 
 def closed(trials):
@@ -541,26 +696,47 @@ def refused(trials):
             status = makes(trials, f"{call} {number}", wanted, env=env).status
             number = after(number)
         trials.check(call, number > 2, "ntfsmake makes no such call")
+    clone, restored = cloned((trials.images / "v0").read_bytes())
+    (trials.images / "clone").write_bytes(clone)
+    trials.keep()
+    for line, whole, is_appended in jobs_of(clone, restored):
+        ends = [Done(0, b"", b""), Done(10, b"", fault(SAVE, "read")), Done(11, b"", fault(SAVE, "write"))]
+        for kind in ({"MOST": "777"}, {"INTERRUPTED": "1"}, {"MOST": "1000", "INTERRUPTED": "1"}):
+            fills(trials, f"{kind}", ends[:1], line, whole, is_appended, env={**trials.shim, **kind})
+        for call in ("open", "pread", "ftruncate", "pwrite"):
+            number, statuses = 1, []
+            # SOURCE is opened once more where it can't be written, and where no limit is told there is none.
+            while (not statuses or statuses[-1] != 0 or number < 6) and number < 5000:
+                env = {**trials.shim, "REFUSED": f"{call}:{number}"}
+                statuses.append(fills(trials, f"{call} {number}", ends, line, whole, is_appended, env=env).status)
+                number = after(number)
+            is_made = (call, is_appended) != ("ftruncate", True)
+            trials.check(call, any(statuses) == is_made, f"{line} ends with {set(statuses)} where it is refused")
     wanting(trials)
 
 
 def wanting(trials):
     """Allocations refused in turn. Before `run` memory is wanting without a message, and with one from there on."""
-    for line, out in (*SHOWN, (["ntfsmake", "new", *MADE], b"")):
-        silent = Done(12, b"", b"")
-        told = Done(12, b"", f"{line[0]}: no memory\n".encode())
+    (trials.images / "clone").write_bytes(cloned((trials.images / "v0").read_bytes())[0])
+    trials.keep()
+    for line, out in (*SHOWN, (["ntfsmake", "new", *MADE], b""), (SAVE, b""), (COPY, b""), (RESTORE, b"")):
+        silent = (12, b"")
+        told = (12, f"{line[0]}: no memory\n".encode())
         ends, number = [], 1
         while not ends or (ends[-1].status != 0 and number < 1 << 20):
-            ends.append(trials.run(line, env={**trials.shim, "REFUSED": f"malloc:{number}"}))
+            done = trials.run(line, env={**trials.shim, "REFUSED": f"malloc:{number}"})
+            trials.check("allocations", out.startswith(done.out), f"{line} put {done.out!r:.300}")
+            ends.append(done)
             (trials.images / "new").unlink(missing_ok=True)
             number = after(number)
-        first = ends.index(told) if told in ends else 0
-        is_right = first > 0 and ends == [silent] * first + [told] * (len(ends) - 1 - first) + [Done(0, out, b"")]
-        trials.check("allocations", is_right, f"{line} ended with {[end[::2] for end in ends]}")
+        shown_ends = [end[::2] for end in ends]
+        first = shown_ends.index(told) if told in shown_ends else 0
+        is_right = first > 0 and shown_ends == [silent] * first + [told] * (len(ends) - 1 - first) + [(0, b"")]
+        trials.check("allocations", is_right and ends[-1].out == out, f"{line} ended with {shown_ends}")
     trials.unchanged("allocations")
 
 
-PARTS = (words, streams, names, made, closed, outputs, files, limits, together, sparse, calls)
+PARTS = (words, streams, names, made, closed, outputs, files, limits, together, sparse, clones, calls)
 
 
 def main():
